@@ -1,0 +1,5 @@
+pub mod Buffers
+pub mod Checks
+pub mod Faults
+pub mod Frames
+pub mod Laws
