@@ -1,6 +1,6 @@
 -- From what the reading of a frame tells to what the laws say of it.
 use mathlib.Core.Bool.{cond}
-use mathlib.Core.Path.{_≡_, refl, sym, ap, subst, _∙_}
+use mathlib.Core.Path.{_≡_, refl, sym, ap, _∙_}
 use mathlib.Core.List.{List}
 use Prim.Native.Nat.{ℕ}
 use native.Mathlib.Omega.{arith}
@@ -20,12 +20,12 @@ use Rattle.link.specs.Faults.{frame-fault, frame-report}
 use Rattle.link.specs.Frames.{Parts, frame-checks, frame-of, frame-refusal, parts, parts-in, parts-read, written}
 use Rattle.link.specs.Laws.{Read-as, Reads}
 use Rattle.link.proofs.Filling.{take-filled}
-use Rattle.link.proofs.Ordering.{fails-first}
+use Rattle.link.proofs.Ordering.{fails-first-at}
 use Rattle.link.proofs.Trips.{accepts, apart, parts-back}
 
 pub refusal-order : (bs : List ℕ) (o : Option Report) → o ≡ frame-refusal bs → Fails-first (frame-checks bs) o
 unfolding frame-refusal
-refusal-order bs o h = let P : Option Report → Type 0 = Fails-first (frame-checks bs) in subst P (sym h) (fails-first (frame-checks bs))
+refusal-order bs o h = fails-first-at (frame-checks bs) o h
 
 pub read-as : (bs : List ℕ) (p : Parts) → written p ≡ bs → Read-as bs p
 read-as bs p h = record { writes-back = h; only = λ q k. apart q p (k ∙ sym h) }

@@ -1,0 +1,111 @@
+// Reply telegrams: what a meter answers to a fetch.
+ghost use mathlib.Core.Path.{_≡_};
+ghost use lib.ListN.{drop};
+ghost use Rattle.std.specs.Orderings.{Decides};
+ghost use Rattle.std.specs.Vec.{made};
+ghost use Rattle.link.specs.Checks.{Fails-first, first-fault};
+ghost use Rattle.link.specs.Frames.{frame-refusal, long, written};
+ghost use Rattle.telegram.specs.Faults.{Rises, reply-fault};
+ghost use Rattle.telegram.specs.Replies.{Garbled, Reads-reply, answers, body-of, is-ack, long-reply-checks, reply-checks, reply-parts, reply-refusal};
+use crate::address::Address;
+use crate::fault::ReplyFault;
+use crate::fault::ReplyFromFrame;
+use link::frame::Frame;
+
+// A reply telegram, apart from its body.
+#[derive(Clone, Copy)]
+pub struct Reply {
+    // the byte A
+    pub primary: u8,
+    pub address: Address,
+    // the access number
+    pub access: u8,
+    pub status: u8,
+    pub signature: u16,
+}
+
+impl Reply {
+    // The reply telegram that the bytes are, or the first fault in them.
+    pub fn read(bytes: &[u8]) -> Result<Reply, ReplyFault>
+        ensures fault { λ r. ⌜ reply-fault r ≡ reply-refusal (now (bytes .entry)) ⌝ }
+        ensures order { λ r. ⌜ Fails-first (reply-checks (now (bytes .entry))) (reply-fault r) ⌝ }
+        ensures rises { λ r. ⌜ Rises (frame-refusal (now (bytes .entry))) r ⌝ }
+        ensures reads { λ r. ⌜ Reads-reply (now (bytes .entry)) r ⌝ }
+    {
+        match Frame::read(bytes)? {
+            Frame::Long {
+                control,
+                address,
+                information,
+                data,
+            } => Reply::from_long(control, address, information, data),
+            _ => Err(ReplyFault::NotReply { place: 0 }),
+        }
+    }
+
+    // The reply telegram that a long frame is.
+    fn from_long(
+        control: u8,
+        primary: u8,
+        information: u8,
+        data: &[u8],
+    ) -> Result<Reply, ReplyFault>
+        ensures fault { λ r. ⌜ reply-fault r ≡ first-fault (long-reply-checks control information (now («data» .entry))) ⌝ }
+        ensures parts { λ r. ⌜ made r (λ t. reply-parts t (drop 12 (now («data» .entry))) ≡ long control primary information (now («data» .entry))) ⌝ }
+    {
+        if control != 0x08 {
+            return Err(ReplyFault::NotReply { place: 4 });
+        }
+        if information != 0x72 {
+            return Err(ReplyFault::NotReply { place: 6 });
+        }
+        if data.len() < 12 {
+            return Err(ReplyFault::NotReply { place: 1 });
+        }
+        Ok(Reply {
+            primary,
+            address: Address::at(data, 7)?,
+            access: data[8],
+            status: data[9],
+            signature: u16::from_le_bytes([data[10], data[11]]),
+        })
+    }
+
+    // The body of a reply telegram, which begins at place 19 and ends before the checksum.
+    // Empty in what is too short for one.
+    pub fn body(bytes: &[u8]) -> &[u8]
+        ensures { λ r. ⌜ now r ≡ body-of (now (bytes .entry)) ⌝ }
+    {
+        if bytes.len() < 21 {
+            return &bytes[0..0];
+        }
+        &bytes[19..bytes.len() - 2]
+    }
+}
+
+// The acknowledgement alone.
+fn is_ack_alone(bytes: &[u8]) -> bool
+    ensures { λ r. ⌜ r ≡ is-ack (now (bytes .entry)) ⌝ }
+{
+    bytes.len() == 1 && bytes[0] == 0xe5
+}
+
+// An answer: the acknowledgement alone, or a reply telegram.
+fn is_answer(bytes: &[u8]) -> bool
+    ensures { λ r. ⌜ r ≡ answers (now (bytes .entry)) ⌝ }
+{
+    is_ack_alone(bytes) | Reply::read(bytes).is_ok()
+}
+
+// Whether the bytes are garbled: 1 to 261 bytes that are no answer.
+pub fn is_garbled(bytes: &[u8]) -> bool
+    ensures { λ r. ⌜ Decides r (Garbled (now (bytes .entry))) ⌝ }
+{
+    if bytes.len() == 0 {
+        return false;
+    }
+    if bytes.len() > 261 {
+        return false;
+    }
+    !is_answer(bytes)
+}
