@@ -1,0 +1,4 @@
+pub mod Blanks
+pub mod Judging
+pub mod Pairs
+pub mod Spelling
