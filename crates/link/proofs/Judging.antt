@@ -23,14 +23,14 @@ use Rattle.link.proofs.Filling.{take-filled}
 use Rattle.link.proofs.Ordering.{fails-first-at}
 use Rattle.link.proofs.Trips.{accepts, apart, parts-back}
 
-pub refusal-order : (bs : List ℕ) (o : Option Report) → o ≡ frame-refusal bs → Fails-first (frame-checks bs) o
+refusal-order : (bs : List ℕ) (o : Option Report) → o ≡ frame-refusal bs → Fails-first (frame-checks bs) o
 unfolding frame-refusal
 refusal-order bs o h = fails-first-at (frame-checks bs) o h
 
-pub read-as : (bs : List ℕ) (p : Parts) → written p ≡ bs → Read-as bs p
+read-as : (bs : List ℕ) (p : Parts) → written p ≡ bs → Read-as bs p
 read-as bs p h = record { writes-back = h; only = λ q k. apart q p (k ∙ sym h) }
 
-pub reads : (bs : List ℕ) (r : Result Frame FrameFault) → frame-fault r ≡ frame-refusal bs → made r (λ f. written (parts f) ≡ bs) → Reads bs (parts-read r)
+reads : (bs : List ℕ) (r : Result Frame FrameFault) → frame-fault r ≡ frame-refusal bs → made r (λ f. written (parts f) ≡ bs) → Reads bs (parts-read r)
 reads bs (Ok f) h b = read-as bs (parts f) b
 reads bs (Err e) h b =
     λ p k.
@@ -48,9 +48,19 @@ no-frame : (bs : List ℕ) (r : Report) → Some r ≡ frame-refusal bs → None
 unfolding frame-of
 no-frame bs r h = ap (λ o. cond (isSome o) None (Some (parts-in bs))) h
 
-pub frame-read : (bs : List ℕ) (r : Result Frame FrameFault) → frame-fault r ≡ frame-refusal bs → made r (λ f. written (parts f) ≡ bs) → parts-read r ≡ frame-of bs
+frame-read : (bs : List ℕ) (r : Result Frame FrameFault) → frame-fault r ≡ frame-refusal bs → made r (λ f. written (parts f) ≡ bs) → parts-read r ≡ frame-of bs
 frame-read bs (Ok f) h b = sym (frame-is bs (parts f) b)
 frame-read bs (Err e) h b = no-frame bs (frame-report e) h
+
+-- all that reading promises, from the fault that it tells and the frame that it gives
+pub record Judged (bs : List ℕ) (r : Result Frame FrameFault) : Type 0 where
+  pub order : Fails-first (frame-checks bs) (frame-fault r)
+  pub frame : parts-read r ≡ frame-of bs
+  pub reads : Reads bs (parts-read r)
+
+pub judged : (bs : List ℕ) (r : Result Frame FrameFault) → frame-fault r ≡ frame-refusal bs → made r (λ f. written (parts f) ≡ bs) → Judged bs r
+judged bs r h b =
+    record { order = refusal-order bs (frame-fault r) h; frame = frame-read bs r h b; reads = reads bs r h b }
 
 -- what was written into a buffer is read from it
 pub readable : (buffer : List ℕ) (n : ℕ) (p : Parts) → buffer ≡ filled (written p) → n ≡ length (written p) → Read-as (take n buffer) p

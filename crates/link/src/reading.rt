@@ -97,22 +97,6 @@ fn read_long(bytes: &[u8]) -> Result<Frame<'_>, FrameFault>
     })
 }
 
-// The frame that the bytes are, by their first byte.
-fn read_started(bytes: &[u8]) -> Result<Frame<'_>, FrameFault>
-    ensures fault { λ r. ⌜ frame-fault r ≡ frame-refusal (now (bytes .entry)) ⌝ }
-    ensures bytes { λ r. ⌜ made r (λ f. written (parts f) ≡ now (bytes .entry)) ⌝ }
-{
-    if bytes.len() == 0 {
-        return Err(FrameFault::Empty);
-    }
-    match bytes[0] {
-        0xe5 => read_ack(bytes),
-        0x10 => read_short(bytes),
-        0x68 => read_long(bytes),
-        _ => Err(FrameFault::Start),
-    }
-}
-
 impl<'a> Frame<'a> {
     // The frame that the bytes are, or the first fault in them.
     pub fn read(bytes: &'a [u8]) -> Result<Frame<'a>, FrameFault>
@@ -121,6 +105,14 @@ impl<'a> Frame<'a> {
         ensures frame { λ r. ⌜ parts-read r ≡ frame-of (now (bytes .entry)) ⌝ }
         ensures reads { λ r. ⌜ Reads (now (bytes .entry)) (parts-read r) ⌝ }
     {
-        read_started(bytes)
+        if bytes.len() == 0 {
+            return Err(FrameFault::Empty);
+        }
+        match bytes[0] {
+            0xe5 => read_ack(bytes),
+            0x10 => read_short(bytes),
+            0x68 => read_long(bytes),
+            _ => Err(FrameFault::Start),
+        }
     }
 }

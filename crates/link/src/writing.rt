@@ -39,6 +39,9 @@ fn write_long(
     append(buffer, end, &[sum, 0x16])
 }
 
+// The most data that a long frame holds: L, at most 255, counts three bytes more.
+const MOST_DATA: usize = 252;
+
 impl Frame<'_> {
     // Fills the buffer with the frame, then 00, and answers the count of the frame's bytes.
     // More than 252 bytes of data are refused, and the buffer keeps what it had.
@@ -60,7 +63,7 @@ impl Frame<'_> {
                 information,
                 data,
             } => {
-                if data.len() > 252 {
+                if data.len() > MOST_DATA {
                     return Err(FrameFault::Oversize);
                 }
                 Ok(write_long(buffer, control, address, information, data))

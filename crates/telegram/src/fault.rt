@@ -38,7 +38,7 @@ impl ReplyFault {
 pub impl From<FrameFault> for ReplyFault as ReplyFromFrame {
     ghost converts = { λ e r. r ≡ Frame e };
 
-    fn from(fault: FrameFault) -> ReplyFault {
-        ReplyFault::Frame(fault)
+    fn from(inner: FrameFault) -> ReplyFault {
+        ReplyFault::Frame(inner)
     }
 }

@@ -97,6 +97,9 @@ fn is_answer(bytes: &[u8]) -> bool
     is_ack_alone(bytes) | Reply::read(bytes).is_ok()
 }
 
+// As many bytes as can arrive: the size of a telegram buffer.
+const MOST_BYTES: usize = 261;
+
 // Whether the bytes are garbled: 1 to 261 bytes that are no answer.
 pub fn is_garbled(bytes: &[u8]) -> bool
     ensures { λ r. ⌜ Decides r (Garbled (now (bytes .entry))) ⌝ }
@@ -104,7 +107,7 @@ pub fn is_garbled(bytes: &[u8]) -> bool
     if bytes.len() == 0 {
         return false;
     }
-    if bytes.len() > 261 {
+    if bytes.len() > MOST_BYTES {
         return false;
     }
     !is_answer(bytes)

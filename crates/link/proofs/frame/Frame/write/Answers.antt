@@ -20,8 +20,8 @@ returns-in-Short c =
     let n : c .fill-in-Short .result ≡ length (written p) = search needs in
     record { fault = search needs; count = n; buffer = b; readable = readable (c .fill-in-Short .last .buffer) (c .fill-in-Short .result) p b n }
 
-pub returns-else-data-gt252 : need.returns-else-data-gt252
-returns-else-data-gt252 c =
+pub returns-else-data-gt-MOST-DATA : need.returns-else-data-gt-MOST-DATA
+returns-else-data-gt-MOST-DATA c =
     let p = parts (c .args .self .now) in
     let b : c .write-long .last .buffer ≡ filled (written p) = search needs in
     let n : c .write-long .result ≡ length (written p) = search needs in
