@@ -67,7 +67,6 @@ apart (long c a i d) (long c′ a′ i′ d′) h =
     let k : d ≡ d′ = same-data d d′ (checksum (c ∷ a ∷ i ∷ d) ∷ 0x16 ∷ []) (checksum (c′ ∷ a′ ∷ i′ ∷ d′) ∷ 0x16 ∷ []) l (ap (drop 7) h) in
     cc
 
-
 -- what was written is accepted
 pub accepts : (p : Parts) → frame-refusal (written p) ≡ None
 unfolding frame-refusal

@@ -18,13 +18,7 @@ use crate::frame::Frame;
 use crate::reading::checksum;
 
 // Fills the buffer with a long frame.
-fn write_long(
-    buffer: &mut Buffer,
-    control: u8,
-    address: u8,
-    information: u8,
-    data: &[u8],
-) -> usize
+fn write_long(buffer: &mut Buffer, control: u8, address: u8, information: u8, data: &[u8]) -> usize
     requires { ⌜ length (now «data») ≤ 252 ⌝ }
     ensures buffer { λ r. ⌜ now (buffer .exit) ≡ filled (written (long control address information (now («data» .entry)))) ⌝ }
     ensures count { λ r. ⌜ r ≡ length (written (long control address information (now («data» .entry)))) ⌝ }

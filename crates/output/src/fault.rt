@@ -37,10 +37,12 @@ pub impl fmt::Display for FaultLine as FaultLineDisplay {
     fn fmt<W: fmt::Write>(&self, f: &mut fmt::Formatter<W>) -> fmt::Result {
         let layer = layer_name(self.report.layer);
         let telegram = Optional(self.telegram);
-        let place = Optional(match self.report.place {
-            Some(place) => Some(place as u64),
-            None => None,
-        });
+        let place = Optional(
+            match self.report.place {
+                Some(place) => Some(place as u64),
+                None => None,
+            },
+        );
         let number = self.report.number;
         write!(
             f,

@@ -47,19 +47,19 @@ short-asks : (bs : List ℕ) (c a : ℕ) (q : Request) → written (short c a) �
 short-asks bs c a q h e =
     ⊎-elim
     (λ (s : a ≡ 0xfd). ⊎-elim
-    (λ (k : c ≡ 0x7b). 
+    (λ (k : c ≡ 0x7b).
     let r : q ≡ Fetch true = grind (arith, tells) in
     let b : 0x10 ∷ 0x7b ∷ 0xfd ∷ 0x78 ∷ 0x16 ∷ [] ≡ bs = sym (ap₂ (λ x y. written (short x y)) k s) ∙ h in
     let P : Request → Type 0 = Asks bs in
     subst P (sym r) (fetches-1 b))
     (λ (m : c ≡ 0x7b → ⊥). ⊎-elim
-    (λ (k : c ≡ 0x5b). 
+    (λ (k : c ≡ 0x5b).
     let r : q ≡ Fetch false = grind (arith, tells) in
     let b : 0x10 ∷ 0x5b ∷ 0xfd ∷ 0x58 ∷ 0x16 ∷ [] ≡ bs = sym (ap₂ (λ x y. written (short x y)) k s) ∙ h in
     let P : Request → Type 0 = Asks bs in
     subst P (sym r) (fetches-0 b))
     (λ (n : c ≡ 0x5b → ⊥). ⊎-elim
-    (λ (k : c ≡ 0x40). 
+    (λ (k : c ≡ 0x40).
     let r : q ≡ Release = grind (arith, tells) in
     let b : 0x10 ∷ 0x40 ∷ 0xfd ∷ 0x3d ∷ 0x16 ∷ [] ≡ bs = sym (ap₂ (λ x y. written (short x y)) k s) ∙ h in
     let P : Request → Type 0 = Asks bs in
