@@ -12,7 +12,7 @@ use Rattle.std.specs.shelf.Lists.{All}
 use Rattle.std.specs.declared.option.Option.{Option}
 use Rattle.std.specs.declared.option.Option.the-variants.{Some, None}
 use Rattle.quantity.specs.declared.table.Row.{Row}
-use Rattle.quantity.specs.Table.{code-meaning, has, meaning-at, row-with, table, vif-meaning}
+use Rattle.quantity.specs.Table.{has, meaning-at, row-with, table, vif-meaning}
 
 -- the search goes on from the row numbered i
 module _ (c : ℕ) (rs : List Row) (i : ℕ) (d : Row) where
@@ -39,5 +39,5 @@ row-among P c (x ∷ rs) r a e =
 
 -- what a VIF that is neither 7B nor 7D means, by the row that is found
 pub by-row : (v : ℕ) (o : Option Row) → (v ≡ 0x7B → ⊥) → (v ≡ 0x7D → ⊥) → o ≡ row-with (v % 128) table → meaning-at (v % 128) o ≡ vif-meaning v
-unfolding code-meaning
+unfolding vif-meaning
 by-row v o h k e = simp (ne-eqb v 0x7B h, ne-eqb v 0x7D k) (ap (meaning-at (v % 128)) e)

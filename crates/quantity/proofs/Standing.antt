@@ -14,7 +14,7 @@ use Rattle.std.specs.Iters.{counting}
 use Rattle.std.specs.shelf.Lists.{All}
 use Rattle.quantity.specs.declared.table.Row.{Row}
 use Rattle.quantity.specs.Laws.{Rising, Table-stands, rows-with}
-use Rattle.quantity.specs.Table.{Moderate, code-meaning, first-code, lowered, next-code, table}
+use Rattle.quantity.specs.Table.{Moderate, first-code, lowered, next-code, table, vif-meaning}
 
 abbrev every : {X : Type 0} → (X → Bool) → List X → Bool
 every p [] = true
@@ -46,7 +46,7 @@ moderate-rows =
     (tested (λ r. leb (lowered (r .3)) 9) table refl)
 
 pub table-stands : Table-stands
-unfolding code-meaning
+unfolding vif-meaning Table-stands
 table-stands =
     record {
       rises = rises-by 0 table refl;

@@ -19,7 +19,7 @@ Rising from (r ∷ rs) = (from ≤ first-code r) × Rising (next-code r) rs
 abbrev pub rows-with : ℕ → ℕ
 rows-with c = countBy (has c) table
 
-pub record Table-stands : Type 0 where
+pub record Sound-table : Type 0 where
   pub rises : Rising 0 table
   -- n counts the codes of a row from 0
   pub aligned : All (λ r. first-code r % r .1 ≡ 0) table
@@ -29,3 +29,7 @@ pub record Table-stands : Type 0 where
   pub numbered : map (λ r. quantity-number (r .2)) table ≡ counting 1 26 ++ counting 26 2
   -- the VIFs that mean nothing
   pub refused : kept-by (λ v. not (isSome (vif-meaning v))) (counting 0 256) ≡ 0x6F ∷ 0x7B ∷ 0x7C ∷ 0x7D ∷ 0x7E ∷ 0xEF ∷ 0xFC ∷ 0xFE ∷ []
+
+-- shut, so that a caller's search is spared its parts
+unfoldable pub Table-stands : Type 0
+Table-stands = Sound-table

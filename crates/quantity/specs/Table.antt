@@ -92,11 +92,11 @@ abbrev pub meaning-at : ℕ → Option Row → Option Meaning
 meaning-at c None = None
 meaning-at c (Some r) = Some (meaning-in c r)
 
-unfoldable pub code-meaning : ℕ → Option Meaning
+abbrev pub code-meaning : ℕ → Option Meaning
 code-meaning c = meaning-at c (row-with c table)
 
 -- 7B and 7D extend the table, and want bit 7
-abbrev pub vif-meaning : ℕ → Option Meaning
+unfoldable pub vif-meaning : ℕ → Option Meaning
 vif-meaning v = cond (eqb v 0x7B || eqb v 0x7D) None (code-meaning (v % 128))
 
 -- by how much the power is below n

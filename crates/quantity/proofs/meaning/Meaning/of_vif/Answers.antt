@@ -3,12 +3,13 @@ use Prim.Native.Nat.{_%_}
 use native.Mathlib.Omega.{arith}
 use borrow.Author.Needs.{needs}
 use Rattle.std.specs.declared.option.Option.the-variants.{Some, None}
-use Rattle.quantity.specs.Table.{Moderate, table}
+use Rattle.quantity.specs.Table.{Moderate, table, vif-meaning}
 use Rattle.quantity.proofs.Rows.{by-row, row-among}
 use Rattle.quantity.proofs.Standing.{moderate-rows, table-stands}
 use Rattle.quantity.proofs.meaning.Meaning.of_vif.Needs as need
 
 pub returns-then-vif-eq123 : need.returns-then-vif-eq123
+unfolding vif-meaning
 returns-then-vif-eq123 c = record { value = search needs; table = table-stands }
 
 pub returns-in-Break-row : need.returns-in-Break-row
