@@ -1,0 +1,32 @@
+use mathlib.Core.Path.{sym, ap, _∙_}
+use Prim.Native.Nat.{_%_}
+use native.Mathlib.Omega.{arith}
+use borrow.Author.Needs.{needs}
+use Rattle.std.specs.declared.option.Option.the-variants.{Some, None}
+use Rattle.quantity.specs.Table.{Moderate, table, vif-meaning}
+use Rattle.quantity.proofs.Rows.{by-row, row-among}
+use Rattle.quantity.proofs.Standing.{moderate-rows, table-stands}
+use Rattle.quantity.proofs.meaning.Meaning.of_vif.Needs as need
+
+pub returns-then-vif-eq123 : need.returns-then-vif-eq123
+unfolding vif-meaning
+returns-then-vif-eq123 c = record { value = search needs; table = table-stands }
+
+pub returns-in-Break-row : need.returns-in-Break-row
+returns-in-Break-row c =
+    record {
+      value = c .from-residual .ensures ∙ by-row (c .args .vif) None (c .if-vif-eq123 .left) (c .if-vif-eq125 .left) (c .in-Break-row .ensures tt);
+      table = table-stands;
+    }
+
+pub meaning-in-requires : need.meaning-in-requires
+meaning-in-requires c κs =
+    let h = row-among Moderate (c .args .vif % 128) table (c .in-Continue-row .row) moderate-rows (sym (c .in-Continue-row .ensures tt)) in
+    (omega arith, (h .0, h .1))
+
+pub returns : need.returns
+returns c =
+    record {
+      value = ap Some (c .meaning-in .ensures) ∙ by-row (c .args .vif) (Some (c .in-Continue-row .row)) (c .if-vif-eq123 .left) (c .if-vif-eq125 .left) (c .in-Continue-row .ensures tt);
+      table = table-stands;
+    }

@@ -1,0 +1,65 @@
+// What a VIF means.
+ghost use mathlib.Core.Bool.{true};
+ghost use mathlib.Core.Path.{_≡_};
+ghost use Prim.Native.Nat.{_<_};
+ghost use Rattle.quantity.specs.Table.{Moderate, has, meaning-in, time-unit, vif-meaning};
+ghost use Rattle.quantity.specs.Laws.{Table-stands};
+use crate::quantity::Quantity;
+use crate::table::Row;
+use crate::table::Scale;
+use crate::table::TABLE;
+use crate::table::find_row;
+use crate::unit::Unit;
+
+// A value is a number of units, times ten to the power.
+#[derive(Clone, Copy)]
+pub struct Meaning {
+    pub quantity: Quantity,
+    pub unit: Unit,
+    pub power: i8,
+}
+
+fn unit_of_time(n: u8) -> Unit
+    ensures { λ r. ⌜ r ≡ time-unit n ⌝ }
+{
+    match n {
+        0 => Unit::Second,
+        1 => Unit::Minute,
+        2 => Unit::Hour,
+        _ => Unit::Day,
+    }
+}
+
+// The meaning of a code of the row.
+fn meaning_in(row: Row, code: u8) -> Meaning
+    requires { ⌜ code < 128 ⌝ ∗ ⌜ has code row ≡ true ⌝ ∗ ⌜ Moderate row ⌝ }
+    ensures { λ r. ⌜ r ≡ meaning-in code row ⌝ }
+{
+    let Row(_, count, quantity, scale) = row;
+    let n = code % count;
+    let (unit, power) = match scale {
+        Scale::Tens(unit, less) => (unit, n as i8 - less as i8),
+        Scale::Time => (unit_of_time(n), 0),
+        Scale::Plain => (Unit::Unitless, 0),
+    };
+    Meaning {
+        quantity,
+        unit,
+        power,
+    }
+}
+
+impl Meaning {
+    // The meaning of a VIF. An extension of the table is announced with bit 7 set.
+    pub fn of_vif(vif: u8) -> Option<Meaning>
+        ensures value { λ r. ⌜ r ≡ vif-meaning vif ⌝ }
+        ensures table { λ _. ⌜ Table-stands ⌝ }
+    {
+        if vif == 0x7b || vif == 0x7d {
+            return None;
+        }
+        let code = vif % 128;
+        let row = find_row(&TABLE, code)?;
+        Some(meaning_in(row, code))
+    }
+}

@@ -1,0 +1,5 @@
+pub mod Decimals
+pub mod Leading
+pub mod Positions
+pub mod Refusals
+pub mod Sizes

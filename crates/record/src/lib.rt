@@ -1,0 +1,8 @@
+// The records in the body of a reply telegram.
+mod chain;
+mod coding;
+mod decode;
+pub mod fault;
+mod number;
+pub mod reading;
+mod value;
