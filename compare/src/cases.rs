@@ -2,6 +2,7 @@
 //! program follows, at its edges.
 
 mod frames;
+mod records;
 mod replies;
 mod text;
 
@@ -11,12 +12,13 @@ pub fn all() -> Vec<u8> {
     cases.note("Test input for the program decode, written by: compare cases");
     frames::add(&mut cases);
     replies::add(&mut cases);
+    records::add(&mut cases);
     text::add(&mut cases);
     cases.into_input_without_last_newline()
 }
 
 /// A telegram as upper-case pairs with one space between them.
-fn plain_text(telegram: &[u8]) -> String {
+pub fn plain_text(telegram: &[u8]) -> String {
     if telegram.is_empty() {
         return String::from("-");
     }
@@ -38,6 +40,11 @@ impl Cases {
 
     fn telegram(&mut self, bytes: impl AsRef<[u8]>) {
         self.line(plain_text(bytes.as_ref()));
+    }
+
+    /// A good reply telegram with this body.
+    fn body(&mut self, body: impl AsRef<[u8]>) {
+        self.telegram(replies::reply_with_body(body.as_ref()));
     }
 
     /// A line just as it is given; it gets the 0A here.
@@ -73,7 +80,7 @@ mod tests {
     #[test]
     fn the_input_is_of_fair_size_and_lacks_the_last_newline() {
         let input = all();
-        assert!(input_line::split(&input).count() < 1500);
+        assert!(input_line::split(&input).count() < 3000);
         assert_ne!(input.last(), Some(&b'\n'));
     }
 
@@ -83,11 +90,19 @@ mod tests {
         let lines: Vec<String> = input_line::split(&all())
             .flat_map(|line| decoder.decode_line(line))
             .collect();
-        for number in [1, 2, 3, 4, 5, 6, 7, 9, 10] {
+        for number in (1..=7).chain(9..=16) {
             let end = format!(" number={number}");
             assert!(lines.iter().any(|line| line.ends_with(&end)), "{end}");
         }
-        for kind in ["unreadable", "frame", "reply", "fault"] {
+        for kind in [
+            "unreadable",
+            "frame",
+            "reply",
+            "reading",
+            "maker",
+            "telegram",
+            "fault",
+        ] {
             let start = format!("kind={kind} ");
             assert!(lines.iter().any(|line| line.starts_with(&start)), "{start}");
         }

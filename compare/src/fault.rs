@@ -7,6 +7,7 @@ use std::fmt;
 pub enum Layer {
     Frame,
     Reply,
+    Record,
 }
 
 impl fmt::Display for Layer {
@@ -14,43 +15,43 @@ impl fmt::Display for Layer {
         f.write_str(match self {
             Layer::Frame => "frame",
             Layer::Reply => "reply",
+            Layer::Record => "record",
         })
     }
 }
 
-/// Why a telegram is refused. Number 8 is missing: reading never gives it.
+/// Why a telegram is refused. Numbers 8 and 17 are missing: reading never
+/// gives them.
 #[derive(Debug, Clone, Copy, PartialEq, Eq)]
+#[repr(u8)]
 pub enum Refusal {
-    NoByte,
-    UnknownStart,
-    TooFewBytes,
-    BadHeader,
-    TooManyBytes,
-    WrongStop,
-    WrongChecksum,
-    NoReply,
-    DigitAboveNine,
+    NoByte = 1,
+    UnknownStart = 2,
+    TooFewBytes = 3,
+    BadHeader = 4,
+    TooManyBytes = 5,
+    WrongStop = 6,
+    WrongChecksum = 7,
+    NoReply = 9,
+    AddressDigitAboveNine = 10,
+    BadDataField = 11,
+    EleventhExtension = 12,
+    VifWithoutMeaning = 13,
+    DecimalDigitAboveNine = 14,
+    TextTooLong = 15,
+    BodyEndsEarly = 16,
 }
 
 impl Refusal {
     pub fn number(self) -> u8 {
-        match self {
-            Refusal::NoByte => 1,
-            Refusal::UnknownStart => 2,
-            Refusal::TooFewBytes => 3,
-            Refusal::BadHeader => 4,
-            Refusal::TooManyBytes => 5,
-            Refusal::WrongStop => 6,
-            Refusal::WrongChecksum => 7,
-            Refusal::NoReply => 9,
-            Refusal::DigitAboveNine => 10,
-        }
+        self as u8
     }
 
     pub fn layer(self) -> Layer {
-        match self {
-            Refusal::NoReply | Refusal::DigitAboveNine => Layer::Reply,
-            _ => Layer::Frame,
+        match self.number() {
+            ..=8 => Layer::Frame,
+            9 | 10 => Layer::Reply,
+            11.. => Layer::Record,
         }
     }
 

@@ -4,18 +4,28 @@
 mod cases;
 mod comparison;
 mod decoder;
+mod digits;
 mod fault;
+#[cfg(any(feature = "linked", test))]
+mod fold;
 mod frame;
 mod input_line;
+#[cfg(feature = "linked")]
+mod linked;
 mod output_line;
 mod random_input;
+mod records;
 mod reply;
+#[cfg(any(feature = "linked", test))]
+mod speed;
 
 use std::env;
 use std::ffi::OsString;
 use std::io::{self, BufWriter, Read, Write};
 use std::path::{Path, PathBuf};
 use std::process::ExitCode;
+#[cfg(feature = "linked")]
+use std::time::Duration;
 
 use decoder::Decoder;
 
@@ -23,6 +33,10 @@ const USAGE: &str = "\
 usage: compare decode                     decode the telegrams on standard input
        compare cases                      write test input for decode
        compare random SEED COUNT PROGRAM  compare with PROGRAM on random telegrams";
+
+#[cfg(feature = "linked")]
+const SPEED_USAGE: &str =
+    "       compare speed SECONDS              measure this decoder and the linked one";
 
 /// Neither a difference nor none: the work could not be done.
 const FAILURE: u8 = 2;
@@ -35,12 +49,18 @@ enum Task {
         count: usize,
         program: PathBuf,
     },
+    #[cfg(feature = "linked")]
+    Speed {
+        time: Duration,
+    },
 }
 
 fn main() -> ExitCode {
     let arguments: Vec<OsString> = env::args_os().skip(1).collect();
     let Some(task) = parse(&arguments) else {
         eprintln!("{USAGE}");
+        #[cfg(feature = "linked")]
+        eprintln!("{SPEED_USAGE}");
         return ExitCode::from(FAILURE);
     };
     perform(task).unwrap_or_else(|error| {
@@ -58,6 +78,10 @@ fn parse(arguments: &[OsString]) -> Option<Task> {
             count: count.to_str()?.parse().ok()?,
             program: PathBuf::from(program),
         }),
+        #[cfg(feature = "linked")]
+        [name, seconds] if name == "speed" => Some(Task::Speed {
+            time: Duration::try_from_secs_f64(seconds.to_str()?.parse().ok()?).ok()?,
+        }),
         _ => None,
     }
 }
@@ -74,6 +98,8 @@ fn perform(task: Task) -> io::Result<ExitCode> {
             count,
             program,
         } => compare_random(seed, count, &program),
+        #[cfg(feature = "linked")]
+        Task::Speed { time } => Ok(measure_speed(time)),
     }
 }
 
@@ -100,6 +126,20 @@ fn compare_random(seed: u64, count: usize, program: &Path) -> io::Result<ExitCod
         None => {
             println!("{count} telegrams, no difference");
             Ok(ExitCode::SUCCESS)
+        }
+    }
+}
+
+#[cfg(feature = "linked")]
+fn measure_speed(time: Duration) -> ExitCode {
+    match speed::measure(time, linked::decode) {
+        Ok(speeds) => {
+            println!("{speeds}");
+            ExitCode::SUCCESS
+        }
+        Err(disagreement) => {
+            println!("{disagreement}");
+            ExitCode::FAILURE
         }
     }
 }

@@ -1,14 +1,20 @@
 //! Random test input for `decode`.
 
+mod bodies;
 mod damage;
 mod generator;
 mod lines;
+#[cfg(any(feature = "linked", test))]
+mod measured;
+mod record;
 mod telegrams;
 
 pub use generator::Generator;
+#[cfg(any(feature = "linked", test))]
+pub use measured::telegrams_to_measure;
 
-/// One telegram in this many is left whole.
-const WHOLE_ONE_IN: usize = 3;
+/// One telegram in this many is damaged. Bodies have damage of their own.
+const DAMAGED_ONE_IN: usize = 3;
 
 /// One telegram in this many has an odd line before it.
 const ODD_LINE_ONE_IN: usize = 8;
@@ -33,7 +39,7 @@ pub fn input(generator: &mut Generator, count: usize) -> Vec<u8> {
 
 fn damaged_or_whole(generator: &mut Generator) -> Vec<u8> {
     let mut telegram = telegrams::telegram(generator);
-    if !generator.one_in(WHOLE_ONE_IN) {
+    if generator.one_in(DAMAGED_ONE_IN) {
         damage::damage(generator, &mut telegram);
         // Faults that come together show the order of the checks.
         while generator.one_in(4) {
@@ -57,19 +63,29 @@ mod tests {
     }
 
     #[test]
-    fn every_refusal_and_every_kind_of_line_is_met() {
+    fn every_refusal_and_every_kind_of_line_is_met_often() {
         let input = input(&mut Generator::new(7), 5000);
         let mut decoder = Decoder::default();
         let lines: Vec<String> = input_line::split(&input)
             .flat_map(|line| decoder.decode_line(line))
             .collect();
-        for number in [1, 2, 3, 4, 5, 6, 7, 9, 10] {
+        for number in (1..=7).chain(9..=16) {
             let end = format!(" number={number}");
-            assert!(lines.iter().any(|line| line.ends_with(&end)), "{end}");
+            let count = lines.iter().filter(|line| line.ends_with(&end)).count();
+            assert!(count >= 20, "{count} of{end}");
         }
-        for kind in ["unreadable", "frame", "reply", "fault"] {
+        for kind in [
+            "unreadable",
+            "frame",
+            "reply",
+            "reading",
+            "maker",
+            "telegram",
+            "fault",
+        ] {
             let start = format!("kind={kind} ");
-            assert!(lines.iter().any(|line| line.starts_with(&start)), "{start}");
+            let count = lines.iter().filter(|line| line.starts_with(&start)).count();
+            assert!(count >= 100, "{count} of {start}");
         }
     }
 }

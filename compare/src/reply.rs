@@ -1,14 +1,19 @@
 //! The head of a meter's answer: "Addresses and patterns" and "Reply
 //! telegrams" in docs/PROTOCOL.md.
 
+use crate::digits::Digits;
 use crate::fault::{Fault, Refusal};
 use crate::frame::LongFrame;
+use crate::records::Items;
 
 pub const REPLY_CONTROL: u8 = 0x08;
 pub const REPLY_INFORMATION: u8 = 0x72;
 
+/// Data bytes of the address, which comes first.
+pub const ADDRESS_BYTES: usize = 8;
+
 /// Data bytes before the body: address, access number, status, signature.
-pub const REPLY_HEAD: usize = 12;
+pub const REPLY_HEAD: usize = ADDRESS_BYTES + 4;
 pub const MOST_BODY: usize = 240;
 
 /// Places in the whole telegram.
@@ -16,6 +21,7 @@ const LENGTH_PLACE: usize = 1;
 const CONTROL_PLACE: usize = 4;
 const INFORMATION_PLACE: usize = 6;
 const NUMBER_PLACE: usize = 7;
+const BODY_PLACE: usize = 19;
 
 /// A meter's secondary address.
 #[derive(Debug, Clone, Copy, PartialEq, Eq)]
@@ -50,7 +56,7 @@ impl<'a> Reply<'a> {
         };
         Ok(Reply {
             meter: MeterAddress {
-                number: read_number(&head[..4])?,
+                number: read_number([head[0], head[1], head[2], head[3]])?,
                 maker: u16::from_le_bytes([head[4], head[5]]),
                 version: head[6],
                 medium: head[7],
@@ -60,6 +66,11 @@ impl<'a> Reply<'a> {
             signature: u16::from_le_bytes([head[10], head[11]]),
             body,
         })
+    }
+
+    /// The items of the body, up to its end or to the first refusal.
+    pub fn items(&self) -> Items<'a> {
+        Items::new(self.body, BODY_PLACE)
     }
 
     /// The data bytes of the frame that carries this reply.
@@ -78,20 +89,12 @@ impl<'a> Reply<'a> {
     }
 }
 
-/// Two digits to a byte, the lowest pair first.
-fn read_number(pairs: &[u8]) -> Result<u32, Fault> {
-    if let Some(offset) = pairs.iter().position(has_digit_above_nine) {
-        return Err(Refusal::DigitAboveNine.at(NUMBER_PLACE + offset));
+fn read_number(pairs: [u8; 4]) -> Result<u32, Fault> {
+    let digits = Digits::new(pairs);
+    match digits.first_bad_byte() {
+        Some(offset) => Err(Refusal::AddressDigitAboveNine.at(NUMBER_PLACE + offset)),
+        None => Ok(digits.value() as u32),
     }
-    let value = |pair: &u8| u32::from((pair >> 4) * 10 + (pair & 0x0F));
-    Ok(pairs
-        .iter()
-        .rev()
-        .fold(0, |sum, pair| sum * 100 + value(pair)))
-}
-
-fn has_digit_above_nine(pair: &u8) -> bool {
-    pair >> 4 > 9 || pair & 0x0F > 9
 }
 
 fn number_bytes(number: u32) -> [u8; 4] {
@@ -140,8 +143,14 @@ mod tests {
     fn refuses_the_first_byte_with_a_digit_above_nine() {
         let mut head = HEAD;
         head[3] = 0x1A;
-        assert_eq!(read(0x08, 0x72, &head), Err(Refusal::DigitAboveNine.at(10)));
+        assert_eq!(
+            read(0x08, 0x72, &head),
+            Err(Refusal::AddressDigitAboveNine.at(10))
+        );
         head[1] = 0xA0;
-        assert_eq!(read(0x08, 0x72, &head), Err(Refusal::DigitAboveNine.at(8)));
+        assert_eq!(
+            read(0x08, 0x72, &head),
+            Err(Refusal::AddressDigitAboveNine.at(8))
+        );
     }
 }

@@ -8,7 +8,6 @@ use crate::reply::{MOST_BODY, MeterAddress, REPLY_CONTROL, REPLY_HEAD, REPLY_INF
 const NUMBER_BYTES: usize = 4;
 
 pub fn add(cases: &mut Cases) {
-    add_published(cases);
     add_printed_values(cases);
     add_wrong_control_and_information(cases);
     add_lengths(cases);
@@ -35,10 +34,14 @@ fn reply(data: &[u8]) -> Vec<u8> {
 
 /// The data of a good reply with no body.
 fn good_head() -> Vec<u8> {
-    reply_with_body(&[])
+    data_with_body(&[])
 }
 
-fn reply_with_body(body: &[u8]) -> Vec<u8> {
+pub fn reply_with_body(body: &[u8]) -> Vec<u8> {
+    reply(&data_with_body(body))
+}
+
+fn data_with_body(body: &[u8]) -> Vec<u8> {
     Reply {
         meter: MeterAddress {
             number: 12_345_678,
@@ -52,15 +55,6 @@ fn reply_with_body(body: &[u8]) -> Vec<u8> {
         body,
     }
     .to_data()
-}
-
-fn add_published(cases: &mut Cases) {
-    cases.note("published telegrams");
-    cases.line(
-        "68 1F 1F 68 08 02 72 78 56 34 12 24 40 01 07 55 00 00 00 03 13 15 31 00 DA 02 3B 13 01 \
-         8B 60 04 37 18 02 18 16",
-    );
-    cases.line("68 15 15 68 08 05 72 78 56 34 12 2D 2C 01 04 07 00 00 00 0C 06 27 15 00 00 46 16");
 }
 
 fn add_printed_values(cases: &mut Cases) {
@@ -170,13 +164,13 @@ fn add_bodies(cases: &mut Cases) {
     cases.note("bodies of 0, 1, 2, 239 and 240 bytes");
     for count in [0, 1, 2, MOST_BODY - 1, MOST_BODY] {
         let body: Vec<u8> = (0..count).map(|offset| !(offset as u8)).collect();
-        cases.telegram(reply(&reply_with_body(&body)));
+        cases.body(&body);
     }
     cases.note("a reply inside the body of a reply");
     let inner = reply(&good_head());
-    cases.telegram(reply(&reply_with_body(&inner)));
+    cases.body(&inner);
     cases.note("a body of 240 bytes and a digit above 9");
-    let longest = reply_with_body(&[0x2F; MOST_BODY]);
+    let longest = data_with_body(&[0x2F; MOST_BODY]);
     cases.telegram(reply(&with_byte(&longest, 2, 0xAA)));
 }
 

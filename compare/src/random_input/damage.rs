@@ -1,4 +1,4 @@
-//! Random damage to a telegram.
+//! Random damage to a telegram or to a body.
 
 use super::generator::Generator;
 use crate::frame::{LONG_HEADER, LONG_START, SHORT_HEADER, SHORT_START, STOP, TRAILER, checksum};
@@ -29,6 +29,24 @@ const MIX: [Damage; 10] = [
     Damage::ChangeBothLengths,
     Damage::ChangeSize,
 ];
+
+/// What can befall the body of a reply as well.
+const BODY_MIX: [Damage; 8] = [
+    Damage::ChangeByte,
+    Damage::ChangeByte,
+    Damage::FlipBit,
+    Damage::FlipBit,
+    Damage::DropByte,
+    Damage::InsertByte,
+    Damage::Cut,
+    Damage::SwapBytes,
+];
+
+/// Damages a body once. It may become longer than a body can be.
+pub fn damage_body(generator: &mut Generator, body: &mut Vec<u8>) {
+    let damage = generator.pick(&BODY_MIX);
+    apply(generator, damage, body);
+}
 
 /// Damages a telegram once. Sometimes the checksum, or both L and the
 /// checksum, are made right again, so that later checks see the damage.
@@ -84,7 +102,10 @@ fn any_byte<'a>(generator: &mut Generator, telegram: &'a mut [u8]) -> &'a mut u8
 /// Often a byte that means something somewhere in a telegram.
 fn likely_byte(generator: &mut Generator) -> u8 {
     let any = generator.byte();
-    generator.pick(&[any, any, 0x00, 0x08, 0x10, 0x16, 0x68, 0x72, 0xE5, 0xFF])
+    generator.pick(&[
+        any, any, any, any, 0x00, 0x08, 0x0D, 0x0F, 0x10, 0x16, 0x1F, 0x2F, 0x68, 0x6F, 0x72, 0x7F,
+        0x80, 0xBF, 0xC0, 0xE5, 0xF0, 0xFF,
+    ])
 }
 
 fn new_length(generator: &mut Generator) -> u8 {

@@ -39,6 +39,19 @@ impl Generator {
         choices[self.below(choices.len())]
     }
 
+    /// One of the choices, each as often as its weight says.
+    pub fn pick_weighted<T: Copy>(&mut self, choices: &[(T, usize)]) -> T {
+        let sum = choices.iter().map(|(_, weight)| weight).sum();
+        let mut left = self.below(sum);
+        for &(choice, weight) in choices {
+            if left < weight {
+                return choice;
+            }
+            left -= weight;
+        }
+        unreachable!("the number is below the sum of all weights")
+    }
+
     /// A count from 0 to `most`, small ones more often than large ones, and
     /// `most` itself now and then.
     pub fn count(&mut self, most: usize) -> usize {

@@ -1,10 +1,11 @@
 //! Random telegrams: good ones of every kind, nearly good ones, and noise.
 
+use super::bodies;
 use super::generator::Generator;
 use crate::frame::{
     ACKNOWLEDGEMENT, Frame, LONG_START, LongFrame, MOST_DATA, SHORT_START, long_header,
 };
-use crate::reply::{MOST_BODY, MeterAddress, REPLY_CONTROL, REPLY_HEAD, REPLY_INFORMATION, Reply};
+use crate::reply::{MeterAddress, REPLY_CONTROL, REPLY_HEAD, REPLY_INFORMATION, Reply};
 
 const NUMBERS: usize = 100_000_000;
 
@@ -22,30 +23,28 @@ enum Kind {
 }
 
 /// Kinds that lead deeper into the decoder stand here more often.
-const MIX: [Kind; 14] = [
-    Kind::Acknowledgement,
-    Kind::Short,
-    Kind::Short,
-    Kind::Long,
-    Kind::Long,
-    Kind::Selection,
-    Kind::Reply,
-    Kind::Reply,
-    Kind::Reply,
-    Kind::Reply,
-    Kind::NearlyReply,
-    Kind::Noise,
-    Kind::NoiseAfterStart,
-    Kind::NoiseAfterHeader,
+const MIX: [(Kind, usize); 9] = [
+    (Kind::Acknowledgement, 1),
+    (Kind::Short, 2),
+    (Kind::Long, 2),
+    (Kind::Selection, 1),
+    (Kind::Reply, 20),
+    (Kind::NearlyReply, 2),
+    (Kind::Noise, 1),
+    (Kind::NoiseAfterStart, 1),
+    (Kind::NoiseAfterHeader, 1),
 ];
 
 pub fn telegram(generator: &mut Generator) -> Vec<u8> {
-    match generator.pick(&MIX) {
+    match generator.pick_weighted(&MIX) {
         Kind::Acknowledgement => Frame::Acknowledgement.to_bytes(),
         Kind::Short => short(generator),
         Kind::Long => long(generator),
         Kind::Selection => selection(generator),
-        Kind::Reply => reply(generator),
+        Kind::Reply => {
+            let body = bodies::body(generator);
+            reply(generator, &body)
+        }
         Kind::NearlyReply => nearly_reply(generator),
         Kind::Noise => noise(generator),
         Kind::NoiseAfterStart => {
@@ -93,14 +92,15 @@ fn selection(generator: &mut Generator) -> Vec<u8> {
     .to_bytes()
 }
 
-fn reply(generator: &mut Generator) -> Vec<u8> {
-    let data = reply_data(generator);
+pub fn reply(generator: &mut Generator, body: &[u8]) -> Vec<u8> {
+    let data = reply_data(generator, body);
     reply_frame(generator, &data)
 }
 
 /// A reply in all but one or two of the things that make it one.
 fn nearly_reply(generator: &mut Generator) -> Vec<u8> {
-    let mut data = reply_data(generator);
+    let body = bodies::body(generator);
+    let mut data = reply_data(generator, &body);
     for _ in 0..=generator.below(2) {
         data[generator.below(4)] = generator.byte();
     }
@@ -129,7 +129,7 @@ fn reply_frame(generator: &mut Generator, data: &[u8]) -> Vec<u8> {
     .to_bytes()
 }
 
-fn reply_data(generator: &mut Generator) -> Vec<u8> {
+fn reply_data(generator: &mut Generator, body: &[u8]) -> Vec<u8> {
     Reply {
         meter: MeterAddress {
             number: generator.below(NUMBERS) as u32,
@@ -140,14 +140,7 @@ fn reply_data(generator: &mut Generator) -> Vec<u8> {
         access: generator.byte(),
         status: generator.byte(),
         signature: generator.pick(&[0x0000, 0x00FF, 0x1234, 0xFFFF]),
-        body: &body(generator),
+        body,
     }
     .to_data()
-}
-
-/// Bodies are noise as long as no rule says what stands in them. Bodies of
-/// records will be made here.
-fn body(generator: &mut Generator) -> Vec<u8> {
-    let count = generator.count(MOST_BODY);
-    generator.bytes(count)
 }
