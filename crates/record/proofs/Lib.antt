@@ -3,3 +3,4 @@ pub mod Leading
 pub mod Positions
 pub mod Refusals
 pub mod Sizes
+pub mod Standing

@@ -3,6 +3,7 @@ use mathlib.Core.Bool.{cond}
 use mathlib.Core.Path.{_≡_, refl, sym, ap, ap₂, _∙_}
 use mathlib.Core.List.{List, _++_}
 use Prim.Native.Nat.{ℕ}
+use native.Mathlib.Omega.{arith}
 use lib.ListN.{getD}
 use Rattle.std.proofs.shelf.Results.{made-from-err}
 use Rattle.std.specs.Results.{isErr}
@@ -13,8 +14,8 @@ use Rattle.std.specs.Options.{isSome}
 use Rattle.std.specs.declared.option.Option.{Option}
 use Rattle.std.specs.declared.option.Option.the-variants.{Some, None}
 use Rattle.link.specs.declared.fault.Report.{Report}
-use Rattle.link.specs.Checks.{first-fault}
-use Rattle.link.proofs.Ordering.{first-joined, or-else}
+use Rattle.link.specs.Checks.{Fails-first, first-fault}
+use Rattle.link.proofs.Ordering.{fails-first-at, first-joined, or-else}
 use Rattle.quantity.specs.declared.meaning.Meaning.{Meaning}
 use Rattle.record.specs.declared.coding.Coding.{Coding}
 use Rattle.quantity.specs.Table.{vif-meaning}
@@ -22,13 +23,13 @@ use Rattle.record.specs.declared.fault.RecordFault.{RecordFault}
 use Rattle.record.specs.declared.reading.Reading.{Reading}
 use Rattle.record.specs.Chains.{chain-end}
 use Rattle.record.specs.Faults.{record-fault, record-report}
-use Rattle.record.specs.Records.{coding-at, data-checks, data-place, decoded, dib-checks, meaning-at, reading-by, reading-of, record-of, record-refusal, vib-checks, vif-place}
+use Rattle.record.specs.Records.{coding-at, data-checks, data-place, decoded, dib-checks, meaning-at, reading-by, reading-of, record-checks, record-of, record-refusal, vib-checks, vif-place}
 use Rattle.record.specs.Values.{value-checks, value-end, value-of}
 
 -- a fault that is handed on as it is
-pub handed-on : {T : Type 0} (r : Result T RecordFault) (f e : RecordFault) (o : Option Report) (P : T → Type 0) → r ≡ Err f → f ≡ e → Some (record-report e) ≡ o → (record-fault r ≡ o) × made r P
-handed-on r f e o P k l h =
-    (ap record-fault k ∙ ap (λ x. Some (record-report x)) l ∙ h, made-from-err r P (ap isErr k))
+pub handed-on : {T : Type 0} (r : Result T RecordFault) (f e : RecordFault) (o : Option Report) (P Q : T → Type 0) → r ≡ Err f → f ≡ e → Some (record-report e) ≡ o → (record-fault r ≡ o) × made r P × made r Q
+handed-on r f e o P Q k l h =
+    (ap record-fault k ∙ ap (λ x. Some (record-report x)) l ∙ h, made-from-err r P (ap isErr k), made-from-err r Q (ap isErr k))
 
 -- a record at p, with its VIF at v and its data at d
 module _ (bs : List ℕ) (p v d : ℕ) (at-vif : v ≡ chain-end bs p) (at-data : d ≡ chain-end bs v) where
@@ -72,3 +73,20 @@ module _ (bs : List ℕ) (p v d : ℕ) (at-vif : v ≡ chain-end bs p) (at-data 
       ap (λ o. cond (isSome o) None (decoded bs p (coding-at bs p) (meaning-at bs p))) (sym n)
       ∙ ap₂ (decoded bs p) e f′
       ∙ ap₂ (λ y z. Some (record { reading = y; next = z })) value-is next-is
+
+both-passed : (a b : Option Report) → None ≡ or-else a b → (None ≡ a) × (None ≡ b)
+both-passed None b h = (refl, h)
+both-passed (Some r) b h = let z : _≡_ {A = ℕ} 0 1 = cc in absurd (omega arith)
+
+-- where nothing is refused, each part passes
+pub passed-parts : (bs : List ℕ) (p : ℕ) → None ≡ record-refusal bs p → (None ≡ first-fault (dib-checks bs p)) × (None ≡ first-fault (vib-checks bs (vif-place bs p))) × (None ≡ first-fault (data-checks bs (data-place bs p) (coding-at bs p)))
+unfolding rest
+passed-parts bs p n =
+    let h = both-passed (first-fault (dib-checks bs p)) _ (n ∙ parts-of bs p (vif-place bs p) (data-place bs p) refl refl) in
+    let k = both-passed (first-fault (vib-checks bs (vif-place bs p))) _ (h .1) in
+    (h .0, k .0, k .1)
+
+-- the order of the checks
+pub refusal-order : (bs : List ℕ) (p : ℕ) (o : Option Report) → o ≡ record-refusal bs p → Fails-first (record-checks bs p) o
+unfolding record-refusal
+refusal-order bs p o h = fails-first-at (record-checks bs p) o h

@@ -1,7 +1,8 @@
 -- One record: DIF, DIFEs, VIF, VIFEs, data. bs is a telegram up to its body's end, p the place of the DIF.
 use mathlib.Core.Bool.{cond}
+use mathlib.Core.Path.{_≡_}
 use mathlib.Core.List.{List, [], _∷_, _++_}
-use Prim.Native.Nat.{ℕ, _+_, _-_, _/_, _%_}
+use Prim.Native.Nat.{ℕ, _+_, _-_, _/_, _%_, _≤_, _<_}
 use lib.Dec.{ltb, eqb}
 use lib.ListN.{length, getD}
 use Rattle.std.specs.Holes.{between}
@@ -18,6 +19,7 @@ use Rattle.record.specs.declared.reading.Function as func
 use Rattle.record.specs.declared.reading.Function.the-variants.{Instantaneous, Maximum, Minimum, DuringError}
 use Rattle.record.specs.declared.reading.Reading.{Reading}
 use Rattle.record.specs.declared.reading.Value.{Value}
+use Rattle.record.specs.declared.reading.Value.the-variants as value
 use Rattle.record.specs.Chains.{chain-checks, chain-end, storage-of, tariff-of, subunit-of}
 use Rattle.record.specs.Codings.{coding-of}
 use Rattle.record.specs.Faults.{at, ended}
@@ -31,7 +33,10 @@ function-of dif =
 
 -- the data information block is the DIF and its DIFEs
 abbrev pub dib-checks : List ℕ → ℕ → List Check
-dib-checks bs p = must (isSome (coding-of (getD bs p 0))) (at 11 p) ∷ chain-checks bs p
+dib-checks bs p =
+    must (ltb p (length bs)) (ended bs)
+    ∷ must (isSome (coding-of (getD bs p 0))) (at 11 p)
+    ∷ chain-checks bs p
 
 -- the value information block is the VIF and its VIFEs
 abbrev pub vib-checks : List ℕ → ℕ → List Check
@@ -92,3 +97,19 @@ decoded bs p (Some c) (Some m) = Some (record { reading = reading-of bs p m c; n
 -- the record at p, if nothing refuses it
 unfoldable pub record-of : List ℕ → ℕ → Option Decoded
 record-of bs p = cond (isSome (record-refusal bs p)) None (decoded bs p (coding-at bs p) (meaning-at bs p))
+
+-- a text comes last: its length byte stands at d, and it ends at n
+abbrev pub Text-last : ℕ → ℕ → Value → Type 0
+Text-last d n value.NoData = Unit {0}
+Text-last d n (value.Integer z) = Unit {0}
+Text-last d n (value.Real b) = Unit {0}
+Text-last d n (value.Text s) = (d + 1 ≡ s .place) × (s .place + s .len ≡ n)
+
+-- the parts of a record that begins at p and ends at n
+pub record Within (bs : List ℕ) (p n : ℕ) (r : Reading) : Type 0 where
+  pub begins : r .place ≡ p
+  pub forward : p < n
+  pub ends : n ≤ length bs
+  pub vifes-from : p + 1 < r .vifes .place
+  pub vifes-to : r .vifes .place + r .vifes .len ≤ n
+  pub text : Text-last (r .vifes .place + r .vifes .len) n (r .value)

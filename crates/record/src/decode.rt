@@ -4,12 +4,12 @@ ghost use Prim.Native.Nat.{_+_, _<_, _≤_};
 ghost use lib.ListN.{length, getD};
 ghost use Rattle.std.specs.Vec.{made};
 ghost use Rattle.std.specs.declared.option.Option.the-variants.{Some};
-ghost use Rattle.link.specs.Checks.{first-fault};
+ghost use Rattle.link.specs.Checks.{Fails-first, first-fault};
 ghost use Rattle.quantity.specs.Table.{vif-meaning};
 ghost use Rattle.record.specs.Chains.{chain-end};
 ghost use Rattle.record.specs.Codings.{Sized, coding-of};
 ghost use Rattle.record.specs.Faults.{record-fault};
-ghost use Rattle.record.specs.Records.{dib-checks, function-of, reading-by, record-of, record-refusal, vib-checks};
+ghost use Rattle.record.specs.Records.{Within, dib-checks, function-of, reading-by, record-checks, record-of, record-refusal, vib-checks};
 use crate::chain::after_chain;
 use crate::chain::storage;
 use crate::chain::subunit;
@@ -26,16 +26,16 @@ use quantity::meaning::Meaning;
 
 // A data information block, the DIF and its DIFEs: how the data are coded, and the place after it.
 #[derive(Clone, Copy)]
-pub struct DataBlock {
-    pub coding: Coding,
-    pub end: usize,
+struct DataBlock {
+    coding: Coding,
+    end: usize,
 }
 
 // A value information block, the VIF and its VIFEs: what the data mean, and the place after it.
 #[derive(Clone, Copy)]
-pub struct ValueBlock {
-    pub meaning: Meaning,
-    pub end: usize,
+struct ValueBlock {
+    meaning: Meaning,
+    end: usize,
 }
 
 // A reading and the place after its record.
@@ -58,13 +58,15 @@ fn function_of(dif: u8) -> Function
 
 // The data information block at `at`.
 fn data_block(bytes: &[u8], at: usize) -> Result<DataBlock, RecordFault>
-    requires { ⌜ at < length (now bytes) ⌝ }
     ensures fault { λ r. ⌜ record-fault r ≡ first-fault (dib-checks (now (bytes .entry)) at) ⌝ }
     ensures coding { λ r. ⌜ made r (λ b. coding-of (getD (now (bytes .entry)) at 0) ≡ Some (b .coding)) ⌝ }
     ensures sized { λ r. ⌜ made r (λ b. Sized (b .coding)) ⌝ }
     ensures place { λ r. ⌜ made r (λ b. b .end ≡ chain-end (now (bytes .entry)) at) ⌝ }
     ensures within { λ r. ⌜ made r (λ b. (at < b .end) × (b .end ≤ at + 11) × (b .end ≤ length (now (bytes .entry)))) ⌝ }
 {
+    if at >= bytes.len() {
+        return Err(RecordFault::Ended { place: bytes.len() });
+    }
     let coding = coding_of(bytes[at]).ok_or(RecordFault::DataField { place: at })?;
     let end = after_chain(bytes, at)?;
     Ok(DataBlock { coding, end })
@@ -109,11 +111,12 @@ fn assembled(bytes: &[u8], at: usize, vif: usize, vib: ValueBlock, value: Value)
     }
 }
 
-// The record at `at`.
-pub(crate) fn decode(bytes: &[u8], at: usize) -> Result<Decoded, RecordFault>
-    requires { ⌜ at < length (now bytes) ⌝ }
+// The record at `at`, where `bytes` are a telegram up to the end of its body; or the first fault from the left.
+pub fn decode(bytes: &[u8], at: usize) -> Result<Decoded, RecordFault>
     ensures fault { λ r. ⌜ record-fault r ≡ record-refusal (now (bytes .entry)) at ⌝ }
+    ensures order { λ r. ⌜ Fails-first (record-checks (now (bytes .entry)) at) (record-fault r) ⌝ }
     ensures value { λ r. ⌜ made r (λ d. record-of (now (bytes .entry)) at ≡ Some d) ⌝ }
+    ensures within { λ r. ⌜ made r (λ d. Within (now (bytes .entry)) at (d .next) (d .reading)) ⌝ }
 {
     let dib = data_block(bytes, at)?;
     let vib = value_block(bytes, dib.end)?;

@@ -1,7 +1,7 @@
 // The records in the body of a reply telegram.
 mod chain;
 mod coding;
-mod decode;
+pub mod decode;
 pub mod fault;
 mod number;
 pub mod reading;

@@ -1,0 +1,5 @@
+pub mod Adding
+pub mod Answering
+pub mod Bodies
+pub mod Running
+pub mod Stepping

@@ -1,0 +1,4 @@
+pub mod Collecting
+pub mod Runs
+pub mod Steps
+pub mod Views
