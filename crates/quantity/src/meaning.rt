@@ -1,14 +1,13 @@
 // What a VIF means.
 ghost use mathlib.Core.Bool.{true};
 ghost use mathlib.Core.Path.{_≡_};
-ghost use Prim.Native.Nat.{_<_};
-ghost use Rattle.quantity.specs.Table.{Moderate, has, meaning-in, time-unit, vif-meaning};
+ghost use Prim.Native.Nat.{_-_, _≤_};
+ghost use Rattle.quantity.specs.Table.{Moderate, first-code, has, meaning-in, n-of, time-unit, vif-meaning};
 ghost use Rattle.quantity.specs.Laws.{Table-stands};
 use crate::quantity::Quantity;
 use crate::table::Row;
 use crate::table::Scale;
-use crate::table::TABLE;
-use crate::table::find_row;
+use crate::table::row_of;
 use crate::unit::Unit;
 
 // A value is a number of units, times ten to the power.
@@ -32,11 +31,11 @@ fn unit_of_time(n: u8) -> Unit
 
 // The meaning of a code of the row.
 fn meaning_in(row: Row, code: u8) -> Meaning
-    requires { ⌜ code < 128 ⌝ ∗ ⌜ has code row ≡ true ⌝ ∗ ⌜ Moderate row ⌝ }
+    requires { ⌜ has code row ≡ true ⌝ ∗ ⌜ n-of code row ≡ code - first-code row ⌝ ∗ ⌜ row .1 ≤ 8 ⌝ ∗ ⌜ Moderate row ⌝ }
     ensures { λ r. ⌜ r ≡ meaning-in code row ⌝ }
 {
-    let Row(_, count, quantity, scale) = row;
-    let n = code % count;
+    let Row(first, _, quantity, scale) = row;
+    let n = code - first;
     let (unit, power) = match scale {
         Scale::Tens(unit, less) => (unit, n as i8 - less as i8),
         Scale::Time => (unit_of_time(n), 0),
@@ -59,7 +58,7 @@ impl Meaning {
             return None;
         }
         let code = vif % 128;
-        let row = find_row(&TABLE, code)?;
+        let row = row_of(code)?;
         Some(meaning_in(row, code))
     }
 }

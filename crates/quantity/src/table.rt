@@ -1,6 +1,8 @@
 // The table of VIF codes.
 ghost use mathlib.Core.Path.{_≡_};
-ghost use Rattle.quantity.specs.Table.{has, row-with};
+ghost use Prim.Native.Nat.{_<_, _≤_};
+ghost use lib.ListN.{drop};
+ghost use Rattle.quantity.specs.Table.{has, row-with, table};
 use self::Scale::*;
 use crate::quantity::Quantity;
 use crate::quantity::Quantity::*;
@@ -22,7 +24,7 @@ pub enum Scale {
 #[derive(Clone, Copy)]
 pub struct Row(pub u8, pub u8, pub Quantity, pub Scale);
 
-pub static TABLE: [Row; 28] = [
+static TABLE: [Row; 28] = [
     Row(0x00, 8, Energy, Tens(WattHour, 3)),
     Row(0x08, 8, EnergyJoule, Tens(Joule, 0)),
     Row(0x10, 8, Volume, Tens(CubicMetre, 6)),
@@ -53,6 +55,12 @@ pub static TABLE: [Row; 28] = [
     Row(0x7f, 1, ManufacturerSpecific, Plain),
 ];
 
+// The row at which to begin looking for a code, by the code's high five bits. No row before it has the code.
+static STARTS: [u8; 32] = [
+    0, 0, 1, 1, 2, 2, 3, 3, 4, 5, 6, 6, 7, 7, 8, 8, 9, 9, 10, 10, 11, 11, 12, 13, 14, 15, 16, 17,
+    20, 21, 22, 26,
+];
+
 // Whether the code is one of the row's.
 fn row_has(row: Row, code: u8) -> bool
     ensures { λ r. ⌜ r ≡ has code row ⌝ }
@@ -62,7 +70,7 @@ fn row_has(row: Row, code: u8) -> bool
 }
 
 // The first row that has this code.
-pub fn find_row(rows: &[Row], code: u8) -> Option<Row>
+fn find_row(rows: &[Row], code: u8) -> Option<Row>
     ensures { λ r. ⌜ r ≡ row-with code (now (rows .entry)) ⌝ }
 {
     for row in rows {
@@ -71,4 +79,22 @@ pub fn find_row(rows: &[Row], code: u8) -> Option<Row>
         }
     }
     None
+}
+
+// The number of a row that no row with this code stands before.
+fn start_of(code: u8) -> usize
+    requires { ⌜ code < 128 ⌝ }
+    ensures within { λ r. ⌜ r ≤ 28 ⌝ }
+    ensures passed { λ r. ⌜ row-with code (drop r table) ≡ row-with code table ⌝ }
+{
+    STARTS[code as usize / 4] as usize
+}
+
+// The row that has this code.
+pub fn row_of(code: u8) -> Option<Row>
+    requires { ⌜ code < 128 ⌝ }
+    ensures { λ r. ⌜ r ≡ row-with code table ⌝ }
+{
+    let start = start_of(code);
+    find_row(&TABLE[start..28], code)
 }

@@ -25,7 +25,7 @@ use Rattle.link.specs.declared.fault.FrameFault.{FrameFault}
 use Rattle.link.specs.declared.fault.Report.{Report}
 use Rattle.link.specs.Checks.{Fails-first, first-fault}
 use Rattle.link.specs.Faults.{frame-report}
-use Rattle.link.specs.Frames.{parts, long, checksum, written, frame-checks, frame-refusal}
+use Rattle.link.specs.Frames.{Parts, parts, long, checksum, written, frame-checks, frame-refusal}
 use Rattle.link.proofs.Lists.{between-at}
 use Rattle.link.proofs.Ordering.{fails-first-at, first-joined, or-else}
 use Rattle.link.proofs.Trips.{accepts}
@@ -60,11 +60,11 @@ same-digits d tail x =
 at-long : (c a i : ℕ) (d : List ℕ) → first-fault (telegram-checks (written (long c a i d))) ≡ first-fault (long-reply-checks c i d)
 at-long c a i d = simp (same-digits d (checksum (c ∷ a ∷ i ∷ d) ∷ 0x16 ∷ []) (Some (not-reply 1)))
 
-pub long-refusal : (bs : List ℕ) (c a i : ℕ) (d : List ℕ) → None ≡ frame-refusal bs → written (long c a i d) ≡ bs → first-fault (long-reply-checks c i d) ≡ reply-refusal bs
+long-refusal : (bs : List ℕ) (c a i : ℕ) (d : List ℕ) → None ≡ frame-refusal bs → written (long c a i d) ≡ bs → first-fault (long-reply-checks c i d) ≡ reply-refusal bs
 long-refusal bs c a i d n h =
     sym (at-long c a i d) ∙ ap (λ x. first-fault (telegram-checks x)) h ∙ goes-on bs n
 
-pub other-refusal : (bs : List ℕ) (f : Frame) → ((c a i : ℕ) (d : _) → f ≡ Long c a i d → ⊥) → None ≡ frame-refusal bs → written (parts f) ≡ bs → Some (not-reply 0) ≡ reply-refusal bs
+other-refusal : (bs : List ℕ) (f : Frame) → ((c a i : ℕ) (d : _) → f ≡ Long c a i d → ⊥) → None ≡ frame-refusal bs → written (parts f) ≡ bs → Some (not-reply 0) ≡ reply-refusal bs
 other-refusal bs Ack no-long n h = ap (λ x. first-fault (telegram-checks x)) h ∙ goes-on bs n
 other-refusal bs (Short c a) no-long n h = ap (λ x. first-fault (telegram-checks x)) h ∙ goes-on bs n
 other-refusal bs (Long c a i d) no-long n h = absurd (no-long c a i d refl)
@@ -82,7 +82,7 @@ body-is bs c a i d l h =
     let m : length (front ++ xs) ≡ length bs - 2 = omega (arith, ap length e, length-append front (xs ++ rest), length-append xs rest, length-append front xs) in
     ap (between 19 (length bs - 2)) (sym e) ∙ between-at front xs rest 19 (length bs - 2) k m
 
-pub reply-bytes : (r : Result Reply ReplyFault) (bs : List ℕ) (c a i : ℕ) (d : List ℕ) → reply-fault r ≡ first-fault (long-reply-checks c i d) → made r (λ t. reply-parts t (drop 12 d) ≡ long c a i d) → written (long c a i d) ≡ bs → made r (λ t. written (reply-parts t (body-of bs)) ≡ bs)
+reply-bytes : (r : Result Reply ReplyFault) (bs : List ℕ) (c a i : ℕ) (d : List ℕ) → reply-fault r ≡ first-fault (long-reply-checks c i d) → made r (λ t. reply-parts t (drop 12 d) ≡ long c a i d) → written (long c a i d) ≡ bs → made r (λ t. written (reply-parts t (body-of bs)) ≡ bs)
 reply-bytes (Ok t) bs c a i d f p h =
     let l : 12 ≤ length d = grind (arith, tells) in
     ap (λ b. written (reply-parts t b)) (body-is bs c a i d l h) ∙ ap written p ∙ h
@@ -131,10 +131,32 @@ rises-none : (o : Option Report) (r : Result Reply ReplyFault) → None ≡ o �
 rises-none None r h = tt
 rises-none (Some t) r h = let z : _≡_ {A = ℕ} 0 1 = cc in absurd (omega arith)
 
--- the bytes are a frame
-pub judged : (bs : List ℕ) (r : Result Reply ReplyFault) → None ≡ frame-refusal bs → reply-fault r ≡ reply-refusal bs → made r (λ t. written (reply-parts t (body-of bs)) ≡ bs) → Judged bs r
-judged bs r n h b =
-    record { told = h; rises = rises-none (frame-refusal bs) r n; order = order-of bs (reply-fault r) h; reads = reads-reply bs r h b }
+-- the fault and the reply of a frame, by its bytes
+pub record Framed (bs : List ℕ) (r : Result Reply ReplyFault) : Type 0 where
+  pub told : reply-fault r ≡ reply-refusal bs
+  pub reads : Reads-reply bs r
+
+-- a long frame
+pub framed-long : (bs : List ℕ) (r : Result Reply ReplyFault) (c a i : ℕ) (d : List ℕ) → reply-fault r ≡ first-fault (long-reply-checks c i d) → made r (λ t. reply-parts t (drop 12 d) ≡ long c a i d) → written (long c a i d) ≡ bs → Framed bs r
+framed-long bs r c a i d f p h =
+    let n : None ≡ frame-refusal bs = sym (accepts (long c a i d)) ∙ ap frame-refusal h in
+    let told : reply-fault r ≡ reply-refusal bs = f ∙ long-refusal bs c a i d n h in
+    record { told = told; reads = reads-reply bs r told (reply-bytes r bs c a i d f p h) }
+
+-- any other
+pub framed-other : (f : Frame) → ((c a i : ℕ) (d : _) → f ≡ Long c a i d → ⊥) → Framed (written (parts f)) (Err (fault.NotReply 0))
+framed-other f no-long =
+    let bs = written (parts f) in
+    let told = other-refusal bs f no-long (sym (accepts (parts f))) refl in
+    record { told = told; reads = reads-reply bs (Err (fault.NotReply 0)) told tt }
+
+-- the bytes are those of a frame
+pub judged : (bs : List ℕ) (p : Parts) (r : Result Reply ReplyFault) → written p ≡ bs → reply-fault r ≡ reply-refusal (written p) → Reads-reply (written p) r → Judged bs r
+judged bs p r h f b =
+    let n : None ≡ frame-refusal bs = sym (accepts p) ∙ ap frame-refusal h in
+    let told : reply-fault r ≡ reply-refusal bs = f ∙ ap reply-refusal h in
+    let P : List ℕ → Type 0 = λ x. Reads-reply x r in
+    record { told = told; rises = rises-none (frame-refusal bs) r n; order = order-of bs (reply-fault r) told; reads = subst P h b }
 
 -- the bytes are none, and that fault rises
 pub judged-frame : (bs : List ℕ) (r : Result Reply ReplyFault) (f : ReplyFault) (e : FrameFault) → r ≡ Err f → f ≡ fault.Frame e → Some (frame-report e) ≡ frame-refusal bs → Judged bs r

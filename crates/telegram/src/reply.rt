@@ -4,7 +4,7 @@ ghost use lib.ListN.{drop};
 ghost use Rattle.std.specs.Orderings.{Decides};
 ghost use Rattle.std.specs.Vec.{made};
 ghost use Rattle.link.specs.Checks.{Fails-first, first-fault};
-ghost use Rattle.link.specs.Frames.{frame-refusal, long, written};
+ghost use Rattle.link.specs.Frames.{frame-refusal, long, parts, written};
 ghost use Rattle.telegram.specs.Faults.{Rises, reply-fault};
 ghost use Rattle.telegram.specs.Replies.{Garbled, Reads-reply, answers, body-of, is-ack, long-reply-checks, reply-checks, reply-parts, reply-refusal};
 use crate::address::Address;
@@ -32,7 +32,16 @@ impl Reply {
         ensures rises { λ r. ⌜ Rises (frame-refusal (now (bytes .entry))) r ⌝ }
         ensures reads { λ r. ⌜ Reads-reply (now (bytes .entry)) r ⌝ }
     {
-        match Frame::read(bytes)? {
+        let frame = Frame::read(bytes)?;
+        Reply::from_frame(&frame)
+    }
+
+    // The reply telegram that a frame is, or the first fault in it.
+    pub fn from_frame(frame: &Frame) -> Result<Reply, ReplyFault>
+        ensures fault { λ r. ⌜ reply-fault r ≡ reply-refusal (written (parts (now (frame .entry)))) ⌝ }
+        ensures reads { λ r. ⌜ Reads-reply (written (parts (now (frame .entry)))) r ⌝ }
+    {
+        match *frame {
             Frame::Long {
                 control,
                 address,

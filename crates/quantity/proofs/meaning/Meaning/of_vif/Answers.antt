@@ -1,11 +1,11 @@
 use mathlib.Core.Path.{sym, ap, _∙_}
-use Prim.Native.Nat.{_%_}
+use Prim.Native.Nat.{_%_, _<_}
 use native.Mathlib.Omega.{arith}
 use borrow.Author.Needs.{needs}
 use Rattle.std.specs.declared.option.Option.the-variants.{Some, None}
 use Rattle.quantity.specs.Table.{Moderate, table, vif-meaning}
 use Rattle.quantity.proofs.Rows.{by-row, row-among}
-use Rattle.quantity.proofs.Standing.{moderate-rows, table-stands}
+use Rattle.quantity.proofs.Standing.{counted, few-codes, moderate-rows, table-stands}
 use Rattle.quantity.proofs.meaning.Meaning.of_vif.Needs as need
 
 pub returns-then-vif-eq123 : need.returns-then-vif-eq123
@@ -22,7 +22,10 @@ returns-in-Break-row c =
 pub meaning-in-requires : need.meaning-in-requires
 meaning-in-requires c κs =
     let h = row-among Moderate (c .args .vif % 128) table (c .in-Continue-row .row) moderate-rows (sym (c .in-Continue-row .ensures tt)) in
-    (omega arith, (h .0, h .1))
+    let code = c .args .vif % 128 in
+    let e = sym (c .in-Continue-row .ensures tt) in
+    let low : code < 128 = omega arith in
+    (h .0, (counted code (c .in-Continue-row .row) low e, (few-codes code (c .in-Continue-row .row) low e, h .1)))
 
 pub returns : need.returns
 returns c =
