@@ -1,4 +1,5 @@
 pub mod Decimals
+pub mod Examples
 pub mod Leading
 pub mod Positions
 pub mod Refusals

@@ -21,6 +21,7 @@ use Rattle.record.specs.declared.coding.Coding.{Coding}
 use Rattle.quantity.specs.Table.{vif-meaning}
 use Rattle.record.specs.declared.fault.RecordFault.{RecordFault}
 use Rattle.record.specs.declared.reading.Reading.{Reading}
+use Rattle.record.specs.declared.reading.Value.{Value}
 use Rattle.record.specs.Chains.{chain-end}
 use Rattle.record.specs.Faults.{record-fault, record-report}
 use Rattle.record.specs.Records.{coding-at, data-checks, data-place, decoded, dib-checks, meaning-at, reading-by, reading-of, record-checks, record-of, record-refusal, vib-checks, vif-place}
@@ -63,12 +64,12 @@ module _ (bs : List ℕ) (p v d : ℕ) (at-vif : v ≡ chain-end bs p) (at-data 
     refused-last k c e o l =
         l ∙ sym (rest-of ∙ ap (λ q. or-else q (first-fault (data-checks bs d (coding-at bs p)))) (sym k) ∙ ap (λ q. first-fault (data-checks bs d q)) e)
 
-  pub record-is : None ≡ record-refusal bs p → (c : Coding) (m : Meaning) → coding-at bs p ≡ Some c → vif-meaning (getD bs v 0) ≡ Some m → (x : Reading) → x ≡ reading-by bs p v d m (value-of bs d c) → (n : ℕ) → n ≡ value-end bs d c → record-of bs p ≡ Some (record { reading = x; next = n })
+  pub record-is : None ≡ record-refusal bs p → (c : Coding) (m : Meaning) → coding-at bs p ≡ Some c → vif-meaning (getD bs v 0) ≡ Some m → (x : Reading) (z : Value) → x ≡ reading-by bs p v d m z → z ≡ value-of bs d c → (n : ℕ) → n ≡ value-end bs d c → record-of bs p ≡ Some (record { reading = x; next = n })
   unfolding record-of
-  record-is n c m e f x g k l =
+  record-is n c m e f x z g w k l =
       let data-is : data-place bs p ≡ d = ap (chain-end bs) (sym at-vif) ∙ sym at-data in
       let f′ : meaning-at bs p ≡ Some m = ap (λ w. vif-meaning (getD bs w 0)) (sym at-vif) ∙ f in
-      let value-is : reading-of bs p m c ≡ x = ap₂ (λ w y. reading-by bs p w y m (value-of bs y c)) (sym at-vif) data-is ∙ sym g in
+      let value-is : reading-of bs p m c ≡ x = ap₂ (λ w y. reading-by bs p w y m (value-of bs y c)) (sym at-vif) data-is ∙ sym (g ∙ ap (reading-by bs p v d m) w) in
       let next-is : value-end bs (data-place bs p) c ≡ k = ap (λ y. value-end bs y c) data-is ∙ sym l in
       ap (λ o. cond (isSome o) None (decoded bs p (coding-at bs p) (meaning-at bs p))) (sym n)
       ∙ ap₂ (decoded bs p) e f′

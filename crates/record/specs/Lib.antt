@@ -1,5 +1,6 @@
 pub mod Chains
 pub mod Codings
+pub mod Examples
 pub mod Faults
 pub mod Numbers
 pub mod Records
