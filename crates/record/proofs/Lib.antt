@@ -1,5 +1,4 @@
 pub mod Decimals
-pub mod Examples
 pub mod Leading
 pub mod Positions
 pub mod Refusals

@@ -1,6 +1,5 @@
 pub mod Chains
 pub mod Codings
-pub mod Examples
 pub mod Faults
 pub mod Numbers
 pub mod Records

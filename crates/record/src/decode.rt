@@ -8,7 +8,6 @@ ghost use Rattle.link.specs.Checks.{Fails-first, first-fault};
 ghost use Rattle.quantity.specs.Table.{vif-meaning};
 ghost use Rattle.record.specs.Chains.{chain-end};
 ghost use Rattle.record.specs.Codings.{Sized, coding-of};
-ghost use Rattle.record.specs.Examples.{Examples-hold};
 ghost use Rattle.record.specs.Faults.{record-fault};
 ghost use Rattle.record.specs.Records.{Within, dib-checks, function-of, reading-by, record-checks, record-of, record-refusal, vib-checks};
 use crate::chain::after_chain;
@@ -118,7 +117,6 @@ pub fn decode(bytes: &[u8], at: usize) -> Result<Decoded, RecordFault>
     ensures order { λ r. ⌜ Fails-first (record-checks (now (bytes .entry)) at) (record-fault r) ⌝ }
     ensures value { λ r. ⌜ made r (λ d. record-of (now (bytes .entry)) at ≡ Some d) ⌝ }
     ensures within { λ r. ⌜ made r (λ d. Within (now (bytes .entry)) at (d .next) (d .reading)) ⌝ }
-    ensures examples { λ _. ⌜ Examples-hold ⌝ }
 {
     let dib = data_block(bytes, at)?;
     let vib = value_block(bytes, dib.end)?;
