@@ -10,6 +10,11 @@ use crate::table::Scale;
 use crate::table::row_of;
 use crate::unit::Unit;
 
+// The codes that lead to other tables. Their VIFs have bit 7 set, since the code of that table follows.
+const FIRST_EXTENSION: u8 = 0x7d;
+
+const SECOND_EXTENSION: u8 = 0x7b;
+
 // A value is a number of units, times ten to the power.
 #[derive(Clone, Copy)]
 pub struct Meaning {
@@ -49,12 +54,12 @@ fn meaning_in(row: Row, code: u8) -> Meaning
 }
 
 impl Meaning {
-    // The meaning of a VIF. An extension of the table is announced with bit 7 set.
+    // The meaning of a VIF, if it has one.
     pub fn of_vif(vif: u8) -> Option<Meaning>
         ensures value { λ r. ⌜ r ≡ vif-meaning vif ⌝ }
         ensures table { λ _. ⌜ Table-stands ⌝ }
     {
-        if vif == 0x7b || vif == 0x7d {
+        if vif == FIRST_EXTENSION || vif == SECOND_EXTENSION {
             return None;
         }
         let code = vif % 128;

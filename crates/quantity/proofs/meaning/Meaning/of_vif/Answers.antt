@@ -8,14 +8,14 @@ use Rattle.quantity.proofs.Rows.{by-row, row-among}
 use Rattle.quantity.proofs.Standing.{counted, few-codes, moderate-rows, table-stands}
 use Rattle.quantity.proofs.meaning.Meaning.of_vif.Needs as need
 
-pub returns-then-vif-eq123 : need.returns-then-vif-eq123
+pub returns-then-vif-eq-FIRST-EXTENSION : need.returns-then-vif-eq-FIRST-EXTENSION
 unfolding vif-meaning
-returns-then-vif-eq123 c = record { value = search needs; table = table-stands }
+returns-then-vif-eq-FIRST-EXTENSION c = record { value = search needs; table = table-stands }
 
 pub returns-in-Break-row : need.returns-in-Break-row
 returns-in-Break-row c =
     record {
-      value = c .from-residual .ensures ∙ by-row (c .args .vif) None (c .if-vif-eq123 .left) (c .if-vif-eq125 .left) (c .in-Break-row .ensures tt);
+      value = c .from-residual .ensures ∙ by-row (c .args .vif) None (c .if-vif-eq-SECOND-EXTENSION .left) (c .if-vif-eq-FIRST-EXTENSION .left) (c .in-Break-row .ensures tt);
       table = table-stands;
     }
 
@@ -30,6 +30,6 @@ meaning-in-requires c κs =
 pub returns : need.returns
 returns c =
     record {
-      value = ap Some (c .meaning-in .ensures) ∙ by-row (c .args .vif) (Some (c .in-Continue-row .row)) (c .if-vif-eq123 .left) (c .if-vif-eq125 .left) (c .in-Continue-row .ensures tt);
+      value = ap Some (c .meaning-in .ensures) ∙ by-row (c .args .vif) (Some (c .in-Continue-row .row)) (c .if-vif-eq-SECOND-EXTENSION .left) (c .if-vif-eq-FIRST-EXTENSION .left) (c .in-Continue-row .ensures tt);
       table = table-stands;
     }
