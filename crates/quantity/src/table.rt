@@ -57,8 +57,38 @@ static TABLE: [Row; 28] = [
 
 // The row at which to begin looking for a code, by the code's high five bits. No row before it has the code.
 static STARTS: [u8; 32] = [
-    0, 0, 1, 1, 2, 2, 3, 3, 4, 5, 6, 6, 7, 7, 8, 8, 9, 9, 10, 10, 11, 11, 12, 13, 14, 15, 16, 17,
-    20, 21, 22, 26,
+    0,
+    0,
+    1,
+    1,
+    2,
+    2,
+    3,
+    3,
+    4,
+    5,
+    6,
+    6,
+    7,
+    7,
+    8,
+    8,
+    9,
+    9,
+    10,
+    10,
+    11,
+    11,
+    12,
+    13,
+    14,
+    15,
+    16,
+    17,
+    20,
+    21,
+    22,
+    26,
 ];
 
 // Whether the code is one of the row's.
@@ -91,7 +121,7 @@ fn start_of(code: u8) -> usize
 }
 
 // The row that has this code.
-pub fn row_of(code: u8) -> Option<Row>
+pub(crate) fn row_of(code: u8) -> Option<Row>
     requires { ⌜ code < 128 ⌝ }
     ensures { λ r. ⌜ r ≡ row-with code table ⌝ }
 {

@@ -32,10 +32,7 @@ pub(crate) fn mix_report(digest: u64, report: Report) -> u64
 {
     mix_all(
         digest,
-        &[
-            report.number as u64,
-            report.place.unwrap_or(0) as u64,
-        ],
+        &[report.number as u64, report.place.unwrap_or(0) as u64],
     )
 }
 
