@@ -22,6 +22,7 @@ use Rattle.record.specs.declared.decode.Decoded.{Decoded}
 use Rattle.record.specs.declared.reading.Value.{Value}
 use Rattle.record.specs.declared.reading.Value.the-variants.{Integer}
 use Rattle.record.specs.Records.{record-of, record-refusal}
+use Rattle.line.specs.Laws.{Shows-run}
 
 -- the selection of the numbers that begin with these digits
 abbrev pub selection-of : List ℕ → Request
@@ -37,6 +38,9 @@ pub data Example : Type 0 where
   -- why a body has no first reading
   refuses-body : (body : List ℕ) (expected : Report) → Example
 
+  -- the run that shows above layers of these tries, the lowest layer first
+  shows-run : (layers : List ℕ) (run seen : ℕ) → Example
+
 -- a body begins at place 19
 abbrev pub with-body : List ℕ → List ℕ
 with-body body = replicate 19 0 ++ body
@@ -51,6 +55,7 @@ Holds (sends request expected) = request-bytes request ≡ expected
 Holds (refuses bytes expected) = frame-refusal bytes ≡ Some expected
 Holds (reads body v p u) = Amounts v p u (record-of (with-body body) 19)
 Holds (refuses-body body expected) = record-refusal (with-body body) 19 ≡ Some expected
+Holds (shows-run layers run seen) = Shows-run layers run seen
 
 abbrev pub examples : List Example
 examples =
@@ -72,6 +77,9 @@ examples =
     ∷ reads (0x0a ∷ 0x5a ∷ 0x34 ∷ 0xf2 ∷ []) (Integer (negsuc 233)) (negsuc 0) Celsius
     -- a digit above 9
     ∷ refuses-body (0x0a ∷ 0x5a ∷ 0x3b ∷ 0x12 ∷ []) (report-at layer.Record 14 21)
+    -- two tries, and then three over them
+    ∷ shows-run (2 ∷ 3 ∷ []) 5 0
+    ∷ shows-run (2 ∷ 3 ∷ []) 6 1
     ∷ []
 
 abbrev pub All-hold : Type 0

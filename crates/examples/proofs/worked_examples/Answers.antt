@@ -10,6 +10,6 @@ pub returns : need.returns
 unfolding frame-refusal request-bytes vif-meaning coding-of record-of record-refusal
 returns c =
     record {
-      hold = (refl, (refl, (refl, (refl, (refl, (refl, ((refl, refl, refl), ((refl, refl, refl), ((refl, refl, refl), (refl, tt))))))))));
+      hold = (refl, (refl, (refl, (refl, (refl, (refl, ((refl, refl, refl), ((refl, refl, refl), ((refl, refl, refl), (refl, ((λ b s. refl), ((λ b s. refl), tt))))))))))));
       count = refl;
     }
