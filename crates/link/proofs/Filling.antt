@@ -6,7 +6,7 @@ use native.Mathlib.Omega.{arith}
 use borrow.Rule.Slice.PartMut.{putMid}
 use lib.ListN.{length, take, drop, replicate}
 use Rattle.std.specs.Holes.{between}
-use Rattle.std.proofs.shelf.Lists.{append-assoc, take-at, drop-at, drop-replicate, length-append}
+use Rattle.std.proofs.shelf.Lists.{append-assoc, take-at, drop-at, drop-replicate, length-append, length-replicate}
 use Rattle.link.specs.Buffers.{filled}
 use Rattle.link.specs.Frames.{checksum, long, written}
 use Rattle.link.proofs.Lists.{between-at}
@@ -37,6 +37,11 @@ take-filled bs n h = take-at bs (replicate (261 - length bs) 0) n (sym h)
 -- a buffer that was filled anew, and then with one part
 pub filled-once : (buffer after bs : List ℕ) → buffer ≡ filled [] → ((front : List ℕ) → length front ≡ 0 → buffer ≡ filled front → after ≡ filled (front ++ bs)) → after ≡ filled bs
 filled-once buffer after bs e h = h [] refl e
+
+-- a buffer is filled with no more bytes than it has
+pub filled-few : (bs : List ℕ) → length (filled bs) ≡ 261 → length bs ≤ 261
+unfolding filled
+filled-few bs h = omega (arith, length-append bs (replicate (261 - length bs) 0), length-replicate {A = ℕ} (261 - length bs) 0)
 
 pub new-filled : replicate 261 0 ≡ filled []
 unfolding filled

@@ -2,7 +2,7 @@
 ghost use mathlib.Core.Path.{_≡_};
 ghost use mathlib.Core.List.{List, [], _++_};
 ghost use Prim.Native.Nat.{ℕ, _+_, _≤_};
-ghost use lib.ListN.{length};
+ghost use lib.ListN.{length, take};
 ghost use Rattle.link.specs.Buffers.{filled};
 
 // As many bytes as the longest frame has.
@@ -26,12 +26,12 @@ pub(crate) fn append(buffer: &mut Buffer, at: usize, bytes: &[u8]) -> usize
     end
 }
 
-// Fills the buffer with some bytes, then 00.
-pub(crate) fn fill(buffer: &mut Buffer, bytes: &[u8]) -> usize
-    requires { ⌜ length (now bytes) ≤ 261 ⌝ }
-    ensures buffer { λ _. ⌜ now (buffer .exit) ≡ filled (now (bytes .entry)) ⌝ }
-    ensures count { λ r. ⌜ r ≡ length (now (bytes .entry)) ⌝ }
+// Fills the buffer with some bytes, the first 261 where there are more, then 00, and answers how many it took.
+pub fn fill(buffer: &mut Buffer, bytes: &[u8]) -> usize
+    ensures buffer { λ _. ⌜ now (buffer .exit) ≡ filled (take 261 (now (bytes .entry))) ⌝ }
+    ensures count { λ r. ⌜ r ≡ length (take 261 (now (bytes .entry))) ⌝ }
 {
+    let count = bytes.len().min(buffer.len());
     *buffer = new_buffer();
-    append(buffer, 0, bytes)
+    append(buffer, 0, &bytes[0..count])
 }

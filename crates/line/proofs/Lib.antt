@@ -1,0 +1,5 @@
+pub mod Hearing
+pub mod Exchanging
+pub mod Replying
+pub mod Trying
+pub mod Retrying
