@@ -8,8 +8,8 @@ trap 'rm -rf "$work"' EXIT
 cp "$top/crates.txt" "$work/"
 cp -r "$top/crates" "$work/crates"
 [ $# -gt 0 ] || set -- $(ls "$top/compare/planted")
+rm -rf "$work"/crates/*/must-fail
 for crate in "$@"; do
-    rm -rf "$work/crates/$crate/must-fail"
     cp -r "$top/compare/planted/$crate" "$work/crates/$crate/must-fail"
 done
 cd "$work"

@@ -1,0 +1,4 @@
+pub mod Tables
+pub mod Choices
+pub mod Memories
+pub mod Replies
