@@ -1,18 +1,17 @@
 -- Writing a reply telegram.
-use mathlib.Core.Bool.{Bool, true, cond, not, _&&_}
+use mathlib.Core.Bool.{true, cond, not}
 use mathlib.Core.List.{List, [], _∷_, _++_}
-use mathlib.Core.Path.{_≡_, refl, sym, ap, subst, _∙_}
+use mathlib.Core.Path.{_≡_, refl, ap, subst, _∙_}
 use Prim.Native.Nat.{ℕ, _+_, _%_, _/_, _≤_}
 use native.Mathlib.Omega.{arith}
-use lib.ListN.{length, getD, take}
+use lib.ListN.{length, take}
 use Rattle.std.specs.Options.{isSome}
 use Rattle.std.specs.Results.{isOk}
 use Rattle.std.specs.Vec.{made}
-use Rattle.std.specs.declared.option.Option.the-variants.{Some, None}
 use Rattle.std.specs.declared.result.Result.{Result}
 use Rattle.std.specs.declared.result.Result.the-variants.{Ok, Err}
 use Rattle.std.proofs.shelf.Lists.{append-assoc, getD-append-left, length-append}
-use Rattle.std.proofs.shelf.Tests.{cond-true, le-leb}
+use Rattle.std.proofs.shelf.Tests.{le-leb}
 use Rattle.link.specs.Buffers.{filled}
 use Rattle.link.specs.Faults.{frame-fault}
 use Rattle.link.specs.Frames.{Parts, long, write-refusal, written}
@@ -22,7 +21,7 @@ use Rattle.telegram.specs.declared.address.Address.{Address}
 use Rattle.telegram.specs.declared.reply.Reply.{Reply}
 use Rattle.telegram.specs.Addresses.{address-bytes}
 use Rattle.telegram.specs.Digits.{decimal, decimal-number}
-use Rattle.telegram.specs.Replies.{body-refusal, is-reply, reply-parts, reply-refusal}
+use Rattle.telegram.specs.Replies.{body-refusal, is-reply, reply-parts}
 use Rattle.telegram.proofs.Replying.{passes}
 
 -- the data of a reply telegram with this body
