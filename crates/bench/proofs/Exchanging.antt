@@ -15,8 +15,8 @@ use Rattle.line.specs.Exchanges.{Exchange, Exchanged, cleared, faulted}
 use Rattle.bus.specs.Memories.{bus-of}
 use Rattle.bus.specs.declared.meter_bus.MeterBus.{MeterBus}
 use Rattle.bench.specs.declared.bench.Bench.{Bench}
-use Rattle.bench.specs.declared.code.Code.{Code}
-use Rattle.bench.specs.declared.code.Code.the-variants.{Clean, LostOut, LostBack, Damaged}
+use Rattle.bench.specs.declared.fault_codes.Code.{Code}
+use Rattle.bench.specs.declared.fault_codes.Code.the-variants.{Clean, LostOut, LostBack, Damaged}
 use Rattle.bench.specs.declared.fault_codes.FaultCodes.{FaultCodes}
 use Rattle.bench.specs.declared.table.RowTable.{RowTable}
 use Rattle.bench.specs.Benches.{Befalls, bus-by, codes-of, meaning, next-code, reply-by}

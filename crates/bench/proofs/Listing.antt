@@ -8,7 +8,8 @@ use Rattle.std.specs.declared.option.Option.the-variants.{Some, None}
 use Rattle.std.proofs.shelf.Lists.{drop-more, drop-all}
 use Rattle.std.proofs.shelf.Tests.{cond-false, cond-true}
 use Rattle.link.specs.Checks.{first-fault}
-use Rattle.bench.specs.Checks.{bad, numbered}
+use Rattle.bench.specs.Checks.{numbered}
+use Rattle.bench.specs.Faults.{bad}
 use Rattle.bench.specs.Rows.{each}
 
 module _ {X : Type 0} (p : X → Bool) (xs : List X) (i : ℕ) where

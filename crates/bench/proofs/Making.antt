@@ -26,9 +26,9 @@ use Rattle.bench.specs.declared.fault.BenchFault.{BenchFault}
 use Rattle.bench.specs.declared.row.Body.{Body}
 use Rattle.bench.specs.declared.row.Row.{Row}
 use Rattle.bench.specs.declared.table.RowTable.{RowTable}
-use Rattle.bench.specs.Checks.{bad, bench-refusal, code-checks, known, numbered, oversize, row-checks, size-checks}
+use Rattle.bench.specs.Checks.{bench-refusal, code-checks, known, numbered, row-checks, size-checks}
 use Rattle.bench.specs.Codes.{longest, streak}
-use Rattle.bench.specs.Faults.{bench-fault, bench-report}
+use Rattle.bench.specs.Faults.{bad, bench-fault, bench-report, oversize}
 use Rattle.bench.specs.Meaning.{row-meters}
 use Rattle.bench.specs.Meters.{meters-of}
 use Rattle.bench.specs.Proper.{Fits, Inside, Proper}

@@ -10,8 +10,8 @@ use Rattle.line.specs.Exchanges.{Sound, State, due-to, heard}
 use Rattle.bus.specs.Memories.{at-rest}
 use Rattle.bus.specs.Replies.{arriving, damaged}
 use Rattle.bench.specs.declared.bench.Bench.{Bench}
-use Rattle.bench.specs.declared.code.Code.{Code}
-use Rattle.bench.specs.declared.code.Code.the-variants.{Clean, LostOut, LostBack, Damaged}
+use Rattle.bench.specs.declared.fault_codes.Code.{Code}
+use Rattle.bench.specs.declared.fault_codes.Code.the-variants.{Clean, LostOut, LostBack, Damaged}
 use Rattle.bench.specs.declared.row.Row.{Row}
 use Rattle.bench.specs.Codes.{code-at, longest, position-after}
 use Rattle.bench.specs.Meaning.{state-of}
@@ -19,6 +19,10 @@ use Rattle.bench.specs.Meters.{meters-of}
 
 abbrev pub meaning : Bench → State
 meaning b = state-of (b .bus) (b .faults)
+
+-- a bench is no layer
+abbrev pub single : Bench → ℕ
+single b = 1
 
 abbrev pub codes-of : Bench → List ℕ
 codes-of b = vec-items (b .faults .codes)

@@ -5,20 +5,11 @@ use Prim.Native.Nat.{ℕ, _+_}
 use lib.Dec.{leb}
 use lib.ListN.{length}
 use Rattle.std.specs.declared.option.Option.{Option}
-use Rattle.link.specs.declared.fault.Layer.the-variants as layer
 use Rattle.link.specs.declared.fault.Report.{Report}
 use Rattle.link.specs.Checks.{Check, must, first-fault}
-use Rattle.link.specs.Faults.{report-at, report-of}
 use Rattle.bench.specs.declared.row.Row.{Row}
+use Rattle.bench.specs.Faults.{bad, oversize}
 use Rattle.bench.specs.Rows.{row-fits}
-
--- more than a bench holds
-abbrev pub oversize : Report
-oversize = report-of layer.Making 21
-
--- a bad row or code, by its number
-abbrev pub bad : ℕ → Report
-bad number = report-at layer.Making 22 number
 
 abbrev pub size-checks : ℕ → ℕ → ℕ → List Check
 size-checks rows bytes codes =

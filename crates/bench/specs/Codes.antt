@@ -6,8 +6,8 @@ use Prim.Native.Nat.{ℕ, zero, suc, _+_, max, min, _≤_, _<_}
 use lib.Dec.{eqb}
 use lib.ListN.{length, getD}
 use Rattle.std.specs.shelf.Lists.{leading}
-use Rattle.bench.specs.declared.code.Code.{Code}
-use Rattle.bench.specs.declared.code.Code.the-variants.{Clean, LostOut, LostBack, Damaged}
+use Rattle.bench.specs.declared.fault_codes.Code.{Code}
+use Rattle.bench.specs.declared.fault_codes.Code.the-variants.{Clean, LostOut, LostBack, Damaged}
 
 -- 0 clean, 1 lost out, 2 lost back, 3 damaged
 abbrev pub code-of : ℕ → Code

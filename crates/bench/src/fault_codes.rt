@@ -3,7 +3,18 @@ ghost use mathlib.Core.Path.{_≡_};
 ghost use Prim.Native.Nat.{_≤_};
 ghost use Rattle.std.specs.Of.Vec.{vec-items, vec-len};
 ghost use Rattle.bench.specs.Codes.{code-at, position-after};
-use crate::code::Code;
+
+// What befalls one exchange.
+#[derive(Clone, Copy)]
+pub(crate) enum Code {
+    Clean,
+    // the request is lost on its way out
+    LostOut,
+    // the reply is lost on its way back
+    LostBack,
+    // the reply is damaged on its way back
+    Damaged,
+}
 
 #[derive(Drop)]
 pub(crate) struct FaultCodes {

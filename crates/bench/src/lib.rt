@@ -2,7 +2,6 @@
 // which exchanges fail and how.
 pub mod bench;
 mod check;
-mod code;
 pub mod fault;
 mod fault_codes;
 pub mod row;

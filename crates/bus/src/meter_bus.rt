@@ -35,6 +35,13 @@ impl<T: Table> MeterBus<T> {
         MeterBus { table, memory }
     }
 
+    // How many meters there are.
+    pub fn count(&self) -> usize
+        ensures { λ r. ⌜ r ≡ length (meters (now (self .entry) .table)) ⌝ }
+    {
+        self.table.count()
+    }
+
     // Hears a request. The reply that is due then.
     fn hear(&mut self, request: &[u8]) -> DueReply
         ensures table { λ _. ⌜ now (self .exit) .table ≡ now (self .entry) .table ⌝ }

@@ -1,12 +1,11 @@
 // The bench as a line.
 ghost use mathlib.Core.Path.{_≡_};
-ghost use Prim.Native.Nat.{ℕ};
 ghost use Rattle.line.specs.Exchanges.{Exchanged};
 ghost use Rattle.line.specs.Layering.{layered-none, one-try};
 ghost use Rattle.line.specs.Soundness.{sound-out};
-ghost use Rattle.bench.specs.Benches.{Befalls, meaning};
+ghost use Rattle.bench.specs.Benches.{Befalls, meaning, single};
 use super::Bench;
-use crate::code::Code;
+use crate::fault_codes::Code;
 use crate::table::RowTableMeters;
 use line::line::Line;
 use link::buffer::Buffer;
@@ -16,7 +15,7 @@ pub impl Line for Bench as BenchLine {
 
     ghost base = { meaning };
 
-    ghost tries = { λ _. 1 };
+    ghost tries = { single };
 
     ghost sound = { λ x. sound-out (meaning x) (x .sound) };
 
@@ -27,7 +26,7 @@ pub impl Line for Bench as BenchLine {
     // One exchange, which the next code befalls.
     fn exchange(&mut self, request: &[u8], reply: &mut Buffer) -> usize
         ensures exchanged { λ n. ⌜ Exchanged (meaning (now (self .entry))) (now (request .entry)) n (now (reply .exit)) (meaning (now (self .exit))) ⌝ }
-        ensures layers { λ _. ⌜ _≡_ {A = ℕ} 1 1 ⌝ }
+        ensures layers { λ _. ⌜ single (now (self .exit)) ≡ single (now (self .entry)) ⌝ }
         ensures befalls { λ n. ⌜ Befalls (now (self .entry)) (now (request .entry)) n (now (reply .exit)) (now (self .exit)) ⌝ }
     {
         match self.faults.next() {

@@ -6,7 +6,7 @@ ghost use Rattle.std.specs.Orderings.{Decides};
 ghost use Rattle.std.specs.Results.{isOk};
 ghost use Rattle.std.specs.Vec.{made};
 ghost use Rattle.link.specs.Checks.{Fails-first};
-ghost use Rattle.bench.specs.Benches.{New, codes-of};
+ghost use Rattle.bench.specs.Benches.{New, codes-of, meaning};
 ghost use Rattle.bench.specs.Checks.{bench-checks, bench-refusal};
 ghost use Rattle.bench.specs.Codes.{Longest, longest};
 ghost use Rattle.bench.specs.Faults.{bench-fault};
@@ -33,6 +33,13 @@ impl Bench {
         let bus = MeterBus::new(RowTable { rows, area });
         let faults = FaultCodes { codes, position: 0 };
         Ok(Bench { bus, faults })
+    }
+
+    // How many meters the bench has.
+    pub fn meters(&self) -> usize
+        ensures { λ r. ⌜ r ≡ length (meaning (now (self .entry)) .bus .meters) ⌝ }
+    {
+        self.bus.count()
     }
 
     // How many fault codes the bench was made with.

@@ -1,7 +1,7 @@
 use mathlib.Core.Path.{refl}
 use Rattle.line.specs.Soundness.{sound-out}
 use Rattle.line.proofs.Exchanging.{exchange-sound}
-use Rattle.bench.specs.declared.code.Code.the-variants.{Clean, LostOut, LostBack, Damaged}
+use Rattle.bench.specs.declared.fault_codes.Code.the-variants.{Clean, LostOut, LostBack, Damaged}
 use Rattle.bench.specs.Benches.{meaning}
 use Rattle.bench.proofs.Exchanging.{befalls-by, clean-exchange, faulty-exchange, unheard}
 use Rattle.bench.proofs.bench.line.BenchLine.exchange.Needs as need
