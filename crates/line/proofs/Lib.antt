@@ -1,5 +1,6 @@
 pub mod Hearing
 pub mod Exchanging
 pub mod Replying
+pub mod Sent
 pub mod Trying
 pub mod Retrying

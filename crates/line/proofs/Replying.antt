@@ -16,7 +16,7 @@ use Rattle.telegram.specs.declared.request.Request.the-variants.{Selection, Fet
 use Rattle.telegram.specs.Replies.{Garbled, answers, is-ack, is-reply, reply-refusal}
 use Rattle.line.specs.Meters.{Meter, Carries, Stocked}
 use Rattle.line.specs.Buses.{Bus, Due, Arrives, Damages, Turned, due, due-selects, due-fetches, selected, turn-fits}
-use Rattle.line.specs.Exchanges.{State, Clean, Exchange, due-to}
+use Rattle.line.specs.Exchanges.{State, Clean, Exchange, due-to, heard}
 use Rattle.line.proofs.Hearing.{selected-stocked}
 
 pub reply-answers : (bs : List ℕ) → is-reply bs ≡ true → answers bs ≡ true
@@ -76,3 +76,10 @@ answered-clean (Exchange.clean x) g = x
 answered-clean {r} (Exchange.lost-out h e f) g = absurd (silence-unanswered r e g)
 answered-clean {r} (Exchange.lost-back h e f) g = absurd (silence-unanswered r e g)
 answered-clean {s} {q} {r} (Exchange.damaged h e f) g = absurd (damage-unanswered (due-to q (s .bus)) r e g)
+
+-- where anything comes back, the request was heard
+pub replied-heard : {s : State} {q r : List ℕ} {s′ : State} → Exchange s q r s′ → (r ≡ [] → ⊥) → s′ .bus ≡ heard q (s .bus)
+replied-heard (Exchange.clean x) n = ap (λ t. t .bus) (x .after)
+replied-heard (Exchange.lost-out h e f) n = absurd (n e)
+replied-heard (Exchange.lost-back h e f) n = ap (λ t. t .bus) f
+replied-heard (Exchange.damaged h e f) n = ap (λ t. t .bus) f

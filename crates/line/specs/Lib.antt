@@ -2,6 +2,7 @@ pub mod Meters
 pub mod Buses
 pub mod Exchanges
 pub mod Layers
+pub mod Sending
 pub mod Laws
 pub mod Faults
 pub mod Soundness

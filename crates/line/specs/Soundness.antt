@@ -1,4 +1,5 @@
--- A state is sound in at most one way, so that soundness can be taken out of a truncation, in which a ghost field has it.
+-- Meters are stocked, and a state is sound, in at most one way: so each can be taken out of a truncation, in which
+-- a ghost field has it.
 use mathlib.Core.Bool.{Bool, Bool-set}
 use mathlib.Core.HLevel.{×-prop}
 use mathlib.Core.List.{List, [], _∷_, List·isSet}
@@ -29,6 +30,9 @@ stocked-prop m a b =
       few-telegrams = le-prop (a .few-telegrams) (b .few-telegrams) i;
       carry = all-prop (Carries (m .address)) (carries-prop (m .address)) (m .telegrams) (a .carry) (b .carry) i;
     }
+
+pub stocked-out : (ms : List Meter) → ∥ All Stocked ms ∥₁ → All Stocked ms
+stocked-out ms h = ∥∥₁-elim h (all-prop Stocked stocked-prop ms) (λ x. x)
 
 turn-prop : (k : Option Bool) (ms : List Meter) (turn : ℕ) → IsProp (turn-fits k ms turn)
 turn-prop None ms turn a b = ℕ-set turn 0 a b

@@ -1,3 +1,4 @@
 pub mod Asking
 pub mod Fitting
 pub mod Replying
+pub mod Writing

@@ -1,5 +1,5 @@
 -- Reply telegrams: long frames in which a meter answers.
-use mathlib.Core.Bool.{Bool, true, false, not, _&&_, _||_}
+use mathlib.Core.Bool.{Bool, true, false, cond, not, _&&_, _||_}
 use mathlib.Core.Path.{_≡_}
 use mathlib.Core.List.{List, [], _∷_, _++_}
 use Prim.Native.Nat.{ℕ, _-_, _/_, _%_, _≤_}
@@ -8,12 +8,13 @@ use lib.ListN.{length, getD, drop}
 use Rattle.std.specs.Holes.{between}
 use Rattle.std.specs.Options.{isSome}
 use Rattle.std.specs.declared.option.Option.{Option}
+use Rattle.std.specs.declared.option.Option.the-variants.{Some, None}
 use Rattle.std.specs.declared.result.Result.{Result}
 use Rattle.std.specs.declared.result.Result.the-variants.{Ok, Err}
 use Rattle.link.specs.declared.fault.Layer.the-variants as layer
 use Rattle.link.specs.declared.fault.Report.{Report}
 use Rattle.link.specs.Checks.{Check, must, first-fault}
-use Rattle.link.specs.Faults.{report-at}
+use Rattle.link.specs.Faults.{report-at, report-of}
 use Rattle.link.specs.Frames.{Parts, long, frame-checks, written}
 use Rattle.telegram.specs.declared.fault.ReplyFault.{ReplyFault}
 use Rattle.telegram.specs.declared.reply.Reply.{Reply}
@@ -66,6 +67,10 @@ abbrev pub reply-parts : Reply → List ℕ → Parts
 reply-parts t body =
     long 0x08 (t .primary) 0x72
     (address-bytes (t .address) ++ t .access ∷ t .status ∷ (t .signature % 256) ∷ (t .signature / 256) ∷ body)
+
+-- the refusal of writing: a body has at most 240 bytes
+abbrev pub body-refusal : List ℕ → Option Report
+body-refusal body = cond (leb (length body) 240) None (Some (report-of layer.Frame 8))
 
 -- what is read is the telegram whose bytes were given; refused are only bytes that are no long frame with C 08, CI 72,
 -- at least twelve bytes of data and a decimal number

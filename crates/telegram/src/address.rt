@@ -1,6 +1,7 @@
 // The (secondary) address of a meter.
 ghost use mathlib.Core.Bool.{true};
 ghost use mathlib.Core.Path.{_≡_};
+ghost use lib.ListN.{length};
 ghost use Rattle.telegram.specs.Digits.{decimal-number};
 
 pub mod methods;
@@ -13,5 +14,6 @@ pub struct Address {
     manufacturer: u16,
     version: u8,
     medium: u8,
+    ghost sized: { length number ≡ 4 },
     ghost decimal: { decimal-number number ≡ true },
 }

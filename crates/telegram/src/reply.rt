@@ -1,15 +1,23 @@
 // Reply telegrams: what a meter answers to a fetch.
+ghost use mathlib.Core.Bool.{true, cond};
+ghost use mathlib.Core.List.{_++_};
 ghost use mathlib.Core.Path.{_≡_};
-ghost use lib.ListN.{drop};
+ghost use Prim.Native.Nat.{_+_, _≤_};
+ghost use lib.ListN.{drop, length, take};
 ghost use Rattle.std.specs.Orderings.{Decides};
+ghost use Rattle.std.specs.Results.{isOk};
 ghost use Rattle.std.specs.Vec.{made};
+ghost use Rattle.link.specs.Buffers.{filled};
 ghost use Rattle.link.specs.Checks.{Fails-first, first-fault};
+ghost use Rattle.link.specs.Faults.{frame-fault};
 ghost use Rattle.link.specs.Frames.{frame-refusal, long, parts, written};
 ghost use Rattle.telegram.specs.Faults.{Rises, reply-fault};
-ghost use Rattle.telegram.specs.Replies.{Garbled, Reads-reply, answers, body-of, is-ack, long-reply-checks, reply-checks, reply-parts, reply-refusal};
+ghost use Rattle.telegram.specs.Replies.{Garbled, Reads-reply, answers, body-of, body-refusal, is-ack, is-reply, long-reply-checks, reply-checks, reply-parts, reply-refusal};
 use crate::address::Address;
 use crate::fault::ReplyFault;
 use crate::fault::ReplyFromFrame;
+use link::buffer::Buffer;
+use link::fault::FrameFault;
 use link::frame::Frame;
 
 // A reply telegram, apart from its body.
@@ -23,6 +31,9 @@ pub struct Reply {
     pub status: u8,
     pub signature: u16,
 }
+
+// The most bytes of a body: the data of a long frame, less the twelve bytes before the body.
+const MOST_BODY: usize = 240;
 
 impl Reply {
     // The reply telegram that the bytes are, or the first fault in them.
@@ -90,6 +101,42 @@ impl Reply {
         }
         &bytes[19..bytes.len() - 2]
     }
+
+    // Fills the buffer with the reply telegram that has this body, then 00, and answers the count of its bytes.
+    // A body over 240 bytes is refused, and the buffer keeps what it had.
+    pub fn write(&self, body: &[u8], buffer: &mut Buffer) -> Result<usize, FrameFault>
+        ensures fault { λ r. ⌜ frame-fault r ≡ body-refusal (now (body .entry)) ⌝ }
+        ensures count { λ r. ⌜ made r (λ n. n ≡ length (written (reply-parts (now (self .entry)) (now (body .entry))))) ⌝ }
+        ensures buffer { λ r. ⌜ now (buffer .exit) ≡ cond (isOk r) (filled (written (reply-parts (now (self .entry)) (now (body .entry))))) (now (buffer .entry)) ⌝ }
+        ensures readable { λ r. ⌜ made r (λ n. is-reply (take n (now (buffer .exit))) ≡ true) ⌝ }
+    {
+        if body.len() > MOST_BODY {
+            return Err(FrameFault::Oversize);
+        }
+        let mut data = [0; 252];
+        let access = append(&mut data, 0, &self.address.bytes());
+        let signature = append(&mut data, access, &[self.access, self.status]);
+        let start = append(&mut data, signature, &self.signature.to_le_bytes());
+        let end = append(&mut data, start, body);
+        let frame = Frame::Long {
+            control: 0x08,
+            address: self.primary,
+            information: 0x72,
+            data: &data[0..end],
+        };
+        frame.write(buffer)
+    }
+}
+
+// Puts some bytes behind the first of a frame's data, and answers how many there are then.
+fn append(data: &mut [u8; 252], at: usize, bytes: &[u8]) -> usize
+    requires { ⌜ at + length (now bytes) ≤ 252 ⌝ }
+    ensures front { λ r. ⌜ take r (now («data» .exit)) ≡ take at (now («data» .entry)) ++ now (bytes .entry) ⌝ }
+    ensures count { λ r. ⌜ r ≡ at + length (now (bytes .entry)) ⌝ }
+{
+    let end = at + bytes.len();
+    data[at..end].copy_from_slice(bytes);
+    end
 }
 
 // The acknowledgement alone.

@@ -1,0 +1,9 @@
+pub mod Rows
+pub mod Faults
+pub mod Checks
+pub mod Proper
+pub mod Codes
+pub mod Meters
+pub mod Stocking
+pub mod Meaning
+pub mod Benches
