@@ -28,11 +28,10 @@ pub(crate) fn integer(bytes: &[u8]) -> i64
 {
     let n = unsigned(bytes);
     let half = 1u64 << (8 * bytes.len() - 1);
-    if n < half {
-        return n as i64;
-    }
-    // n minus two halves, which at eight bytes is too large a step to take at once
-    -1 - ((half - 1) - (n - half)) as i64
+    // a negative number is as far below -1 as n is below its greatest value; both ways are so short that no jump is needed
+    let negative = n >= half;
+    let distance = if negative { (half - 1) - (n - half) } else { n } as i64;
+    if negative { -1 - distance } else { distance }
 }
 
 // The byte at `i`, with the digit 0 for a sign.
@@ -51,7 +50,7 @@ fn digits_at(bytes: &[u8], i: usize) -> u8
 fn is_decimal(byte: u8) -> bool
     ensures { λ r. ⌜ r ≡ both-decimal byte ⌝ }
 {
-    byte % 16 <= 9 && byte / 16 <= 9
+    (byte % 16 <= 9) & (byte / 16 <= 9)
 }
 
 // The first byte with a digit above 9 that is no sign, or the length.

@@ -26,15 +26,16 @@ pub enum Value {
     Text(Span),
 }
 
+// The narrow fields stand apart, each beside a wide one, so that copying a reading does not join them.
 #[derive(Clone, Copy)]
 pub struct Reading {
     // of its first byte
     pub place: usize,
-    pub storage: u64,
     pub tariff: u32,
+    pub storage: u64,
     pub subunit: u16,
-    pub function: Function,
-    pub meaning: Meaning,
     pub vifes: Span,
+    pub function: Function,
     pub value: Value,
+    pub meaning: Meaning,
 }

@@ -76,10 +76,10 @@ fn mix_value(digest: u64, value: Value) -> u64
 }
 
 // A reading with so many VIFEs.
-fn mix_reading(digest: u64, reading: Reading, vifes: usize) -> u64
-    ensures { λ r. ⌜ r ≡ mixed-all digest (reading-fields reading vifes) ⌝ }
+fn mix_reading(digest: u64, reading: &Reading, vifes: usize) -> u64
+    ensures { λ r. ⌜ r ≡ mixed-all digest (reading-fields (now (reading .entry)) vifes) ⌝ }
 {
-    let meaning = reading.meaning;
+    let meaning = &reading.meaning;
     let head = mix_all(
         digest,
         &[
@@ -102,12 +102,12 @@ fn mix_reading(digest: u64, reading: Reading, vifes: usize) -> u64
 pub(crate) fn mix_item(digest: u64, item: &Item) -> u64
     ensures { λ r. ⌜ r ≡ mixed-all digest (item-fields (view (now (item .entry)))) ⌝ }
 {
-    match *item {
+    match item {
         Item::Record { reading, vifes } => mix_reading(digest, reading, vifes.len()),
         Item::Text { reading, vifes, .. } => mix_reading(digest, reading, vifes.len()),
         Item::Manufacturer { place, bytes, more } => mix_all(
             digest,
-            &[2, place as u64, bytes.len() as u64, more as u64],
+            &[2, *place as u64, bytes.len() as u64, *more as u64],
         ),
     }
 }
