@@ -1,4 +1,5 @@
 pub mod Hearing
+pub mod Carrying
 pub mod Exchanging
 pub mod Replying
 pub mod Sent

@@ -5,6 +5,7 @@ use link::fault::Layer;
 use link::fault::Report;
 
 // The limit is above 7. The line is handed back.
+#[derive(Drop)]
 pub struct LimitFault<L> {
     pub line: L,
 }

@@ -17,6 +17,7 @@ use link::buffer::Buffer;
 use link::buffer::new_buffer;
 use telegram::reply::is_garbled;
 
+#[derive(Drop)]
 pub struct Retry<L> {
     below: L,
     // how many tries may follow the first
