@@ -49,9 +49,9 @@ def own_names():
             if not m.group(3).startswith("goal."):
                 found.add(m.group(1))
         for m in re.finditer(r"^ *(?:(?:abbrev|unfoldable|pub|record|data)\s+)+(" + NAME + ")", t, re.M):
-            if "goal." not in m.string[m.end() : m.end() + 20]:
+            if ": goal." not in t[m.end() : m.end() + 20]:
                 found.add(m.group(1))
-        for m in re.finditer(r"^\s+(?:pub )?(" + NAME + r") :", t, re.M):
+        for m in re.finditer(r"^ +(?:pub )?(" + NAME + r") :", t, re.M):
             found.add(m.group(1))
         for m in re.finditer(r"\blet (" + NAME + r") [:=]", t):
             found.add(m.group(1))

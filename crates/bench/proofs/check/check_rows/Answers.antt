@@ -3,13 +3,13 @@ use Rattle.bench.specs.Rows.{row_fits}
 use Rattle.bench.proofs.Listing.{numbered_end, numbered_no, numbered_yes}
 use Rattle.bench.proofs.check.check_rows.Goals as goal
 
-pub returns_then_not_fits : goal.returns_then_not_fits
-returns_then_not_fits c =
+pub returns-then-not-fits : goal.returns-then-not-fits
+returns-then-not-fits c =
     let fits = row_fits c.args.size in
     numbered_no fits c.args.rows.now c.loop-number.number c.index-rows-number.result (omega arith) (ap fits (sym c.index-rows-number.is) ∙ sym c.if-not-fits.ensures) ∙ c.loop-number.invariant
 
-pub loop_number_preserved : goal.loop_number_preserved
-loop_number_preserved c =
+pub loop-number-preserved : goal.loop-number-preserved
+loop-number-preserved c =
     let fits = row_fits c.args.size in
     numbered_yes fits c.args.rows.now c.loop-number.number c.index-rows-number.result (omega arith) (ap fits (sym c.index-rows-number.is) ∙ sym c.if-not-fits.ensures) ∙ c.loop-number.invariant
 

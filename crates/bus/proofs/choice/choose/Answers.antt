@@ -7,8 +7,8 @@ use Rattle.bus.proofs.Choosing.{at_row, tells_fit, tells_unfit, tells_all}
 use Rattle.bus.proofs.choice.choose.Goals as goal
 use Rattle.bus.proofs.choice.choose.Goals.{then-is-fit, else-is-fit}
 
-pub loop_row_preserved : goal.loop_row_preserved
-loop_row_preserved g c =
+pub loop-row-preserved : goal.loop-row-preserved
+loop-row-preserved g c =
     let ms = g.T.Table.meters c.args.table.now in
     let p : Meter → Bool = λ m. fits c.args.pattern.now.bytes m.address in
     let i = c.loop-row.row in

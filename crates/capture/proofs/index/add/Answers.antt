@@ -7,8 +7,8 @@ use Rattle.capture.proofs.Adding.{begins_row, full_row, full_rows, joins_row, un
 use Rattle.capture.proofs.index.add.Goals as goal
 use Rattle.capture.proofs.index.add.Goals.{in-Some+else-eq, in-default}
 
-pub returns_then_is_full : goal.returns_then_is_full
-returns_then_is_full c =
+pub returns-then-is-full : goal.returns-then-is-full
+returns-then-is-full c =
     let rows = c.args.rows.now in
     let last = c.in-Some.ensures in
     let full = leb-true 16 c.in-Some.row.count (sym c.if-is-full.ensures) in
@@ -17,8 +17,8 @@ returns_then_is_full c =
       added = λ bytes. (refl, full_row bytes (vec_items rows) (address_bytes c.args.address) (vec_len rows) c.in-Some.row rows.ok.0 last.0 last.1 (c.if-eq.ensures.0 refl) full);
     }
 
-pub returns_then_eq : goal.returns_then_eq
-returns_then_eq c =
+pub returns-then-eq : goal.returns-then-eq
+returns-then-eq c =
     let rows = c.args.rows.now in
     let last = c.in-Some.ensures in
     let with = c.with.ensures in
@@ -28,8 +28,8 @@ returns_then_eq c =
       added = λ bytes. rw c.len-last.ensures (joins_row bytes (vec_items rows) (address_bytes c.args.address) (vec_len rows) c.in-Some.row rows.ok.0 last.0 last.1 c.with.result c.args.start (c.if-eq.ensures.0 refl) few with.address with.starts);
     }
 
-pub returns_then_rows_full : goal.returns_then_rows_full
-returns_then_rows_full c =
+pub returns-then-rows-full : goal.returns-then-rows-full
+returns-then-rows-full c =
     let rows = c.args.rows.now in
     let address = address_bytes c.args.address in
     let unlike : (bytes : List ℕ) → Unlike (meters_of bytes (vec_items rows)) address =

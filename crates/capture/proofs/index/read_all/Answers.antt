@@ -7,8 +7,8 @@ use Rattle.capture.specs.Rows.{Followed, meters_of}
 use Rattle.capture.proofs.Following.{count_none, followed_count, followed_moves, followed_recorded, followed_within, recorded_none, refused}
 use Rattle.capture.proofs.index.read_all.Goals as goal
 
-pub loop_reader_init : goal.loop_reader_init
-loop_reader_init c =
+pub loop-reader-init : goal.loop-reader-init
+loop-reader-init c =
     let bytes = c.args.bytes.now in
     let rows = vec_items c.args.store.rows in
     let none = c.args.store.empty in (
@@ -21,8 +21,8 @@ loop_reader_init c =
       subst (λ n. Recorded (take n bytes) (meters_of bytes rows)) (sym c.new-reader.ensures.at) (recorded_none bytes rows none),
     )
 
-pub returns_in_Err : goal.returns_in_Err
-returns_in_Err c =
+pub returns-in-Err : goal.returns-in-Err
+returns-in-Err c =
     let bytes = c.args.bytes.now in
     let at = c.loop-reader.reader.at in
     let rows = vec_items c.loop-reader.rows in
@@ -37,12 +37,12 @@ follows c =
     let F : List ℕ → Type 0 = λ b. Followed b c.loop-reader.reader.at (meters_of b (vec_items c.loop-reader.rows)) c.read-telegram.new.reader.at (meters_of b (vec_items c.read-telegram.new.rows)) in
     subst F c.loop-reader.invariant.0 c.in-default.ensures.taken
 
-pub loop_reader_smaller : goal.loop_reader_smaller
-loop_reader_smaller c =
+pub loop-reader-smaller : goal.loop-reader-smaller
+loop-reader-smaller c =
     omega (arith, followed_moves c.args.bytes.now c.loop-reader.reader.at _ c.read-telegram.new.reader.at _ (follows c) (omega arith))
 
-pub loop_reader_preserved : goal.loop_reader_preserved
-loop_reader_preserved c =
+pub loop-reader-preserved : goal.loop-reader-preserved
+loop-reader-preserved c =
     let bytes = c.args.bytes.now in
     let at = c.loop-reader.reader.at in
     let next = c.read-telegram.new.reader.at in

@@ -3,8 +3,8 @@ use Rattle.std.proofs.lemmas.List.{length-take}
 use Rattle.capture.proofs.Cuts.{end_within, part_is}
 use Rattle.capture.proofs.reader.telegram_at.Goals as goal
 
-pub slice_bounds_result_end : goal.slice_bounds_result_end
-slice_bounds_result_end c = omega (arith, c.telegram-end.ensures.end, end_within c.args.bytes.now c.args.at c.requires)
+pub slice-bounds-result-end : goal.slice-bounds-result-end
+slice-bounds-result-end c = omega (arith, c.telegram-end.ensures.end, end_within c.args.bytes.now c.args.at c.requires)
 
 pub returns : goal.returns
 returns c =

@@ -6,7 +6,7 @@ use Rattle.house.specs.Fields.{address_of}
 use Rattle.house.proofs.Addressing.{is_made}
 use Rattle.house.proofs.address.read_address.Goals as goal
 
-pub unwrap_requires : goal.unwrap_requires
-unwrap_requires c =
+pub unwrap-requires : goal.unwrap-requires
+unwrap-requires c =
     let f : reply_fault c.from-bytes.result ≡ first_fault (digit_checks 0 (address_of c.args.number.now c.args.maker.now c.args.version.now c.args.medium.now)) = search rules in
     is_made c.from-bytes.result c.args.number.now c.args.maker.now c.args.version.now c.args.medium.now (sym c.if-not-is-spelled.ensures) f

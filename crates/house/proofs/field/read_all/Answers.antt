@@ -3,19 +3,19 @@ use Rattle.std.proofs.lemmas.Bool.{eqb-false, eqb-true}
 use Rattle.house.proofs.Reading.{read_end, read_more, read_none, some_cond}
 use Rattle.house.proofs.field.read_all.Goals as goal
 
-pub loop_word_init : goal.loop_word_init
-loop_word_init g c =
+pub loop-word-init : goal.loop-word-init
+loop-word-init g c =
     let v = c.args.items in
     read_none g.F.Field.fits g.F.Field.value c.args.text.now (vec_items v) (vec_len v) (vec_capacity v) (omega (arith, v.ok.0, c.requires.empty)) c.requires.empty c.requires.room
 
-pub returns_then_is_empty : goal.returns_then_is_empty
-returns_then_is_empty g c =
+pub returns-then-is-empty : goal.returns-then-is-empty
+returns-then-is-empty g c =
     let l = c.loop-word in
     let e = read_end g.F.Field.fits g.F.Field.value c.args.text.now l.left.now (vec_items l.items) (vec_len l.items) (vec_capacity l.items) l.invariant c.next-word.result.0.now c.next-word.ensures.word (omega (arith, eqb-true _ 0 (sym c.if-is-empty.ensures))) in
     record { values = e; few = omega (arith, l.invariant.few) }
 
-pub loop_word_preserved : goal.loop_word_preserved
-loop_word_preserved g c =
+pub loop-word-preserved : goal.loop-word-preserved
+loop-word-preserved g c =
     let l = c.loop-word in
     let w = c.next-word.result.0.now in
     let v = c.push-reserved.new.self in

@@ -5,14 +5,14 @@ use Rattle.house.specs.Lines.{area}
 use Rattle.house.proofs.Saying.{cut, few_pairs, filled, no_pairs, some_pairs}
 use Rattle.house.proofs.line.read_area.Goals as goal
 
-pub returns_in_None : goal.returns_in_None
-returns_in_None c =
+pub returns-in-None : goal.returns-in-None
+returns-in-None c =
     let text = c.args.text.now in
     let held = c.as-mut-slice.ensures.value ∙ filled (vec_items c.args.bytes) (vec_items c.extend-from-slice.new.self) text _ (omega (arith, c.args.bytes.ok.0, c.requires.empty)) (c.extend-from-slice.ensures.succeeds (omega (arith, c.requires.empty, c.requires.room))) c.extend-from-slice.ensures.items in
     record { says = no_pairs text (ap (λ t. bytes_from t None) (sym held) ∙ c.in-None.ensures.value); few = omega arith }
 
-pub returns_then_size_eq0 : goal.returns_then_size_eq0
-returns_then_size_eq0 c =
+pub returns-then-size-eq0 : goal.returns-then-size-eq0
+returns-then-size-eq0 c =
     let text = c.args.text.now in
     let held = c.as-mut-slice.ensures.value ∙ filled (vec_items c.args.bytes) (vec_items c.extend-from-slice.new.self) text _ (omega (arith, c.args.bytes.ok.0, c.requires.empty)) (c.extend-from-slice.ensures.succeeds (omega (arith, c.requires.empty, c.requires.room))) c.extend-from-slice.ensures.items in
     let after = c.read-pairs.new.text in
@@ -21,8 +21,8 @@ returns_then_size_eq0 c =
       few = omega arith;
     }
 
-pub returns_else_size_eq0 : goal.returns_else_size_eq0
-returns_else_size_eq0 c =
+pub returns-else-size-eq0 : goal.returns-else-size-eq0
+returns-else-size-eq0 c =
     let text = c.args.text.now in
     let held = c.as-mut-slice.ensures.value ∙ filled (vec_items c.args.bytes) (vec_items c.extend-from-slice.new.self) text _ (omega (arith, c.args.bytes.ok.0, c.requires.empty)) (c.extend-from-slice.ensures.succeeds (omega (arith, c.requires.empty, c.requires.room))) c.extend-from-slice.ensures.items in
     let after = c.read-pairs.new.text in

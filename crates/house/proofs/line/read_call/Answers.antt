@@ -4,10 +4,10 @@ use Rattle.house.specs.Words.{words}
 use Rattle.house.proofs.Saying.{bare_call, call_with_word}
 use Rattle.house.proofs.line.read_call.Goals as goal
 
-pub returns_then_is_empty : goal.returns_then_is_empty
-returns_then_is_empty c =
+pub returns-then-is-empty : goal.returns-then-is-empty
+returns-then-is-empty c =
     record { says = bare_call (asked c.args.call) (words c.args.text.now) c.next-word.result.0.now c.next-word.ensures.word c.if-is-empty.ensures; few = omega arith }
 
-pub returns_else_is_empty : goal.returns_else_is_empty
-returns_else_is_empty c =
+pub returns-else-is-empty : goal.returns-else-is-empty
+returns-else-is-empty c =
     record { says = call_with_word (asked c.args.call) (words c.args.text.now) c.next-word.result.0.now c.next-word.ensures.word c.if-is-empty.ensures; few = omega arith }

@@ -4,11 +4,11 @@ use Rattle.house.specs.Words.{words}
 use Rattle.house.proofs.Saying.{few_codes, no_codes, some_codes}
 use Rattle.house.proofs.line.read_fault.Goals as goal
 
-pub returns_in_default : goal.returns_in_default
-returns_in_default c = record { says = no_codes (words c.args.text.now) c.in-default.ensures.values; few = omega arith }
+pub returns-in-default : goal.returns-in-default
+returns-in-default c = record { says = no_codes (words c.args.text.now) c.in-default.ensures.values; few = omega arith }
 
-pub returns_then_is_empty : goal.returns_then_is_empty
-returns_then_is_empty c =
+pub returns-then-is-empty : goal.returns-then-is-empty
+returns-then-is-empty c =
     let v = c.in-Some.codes in
     record {
       says = few_codes (words c.args.text.now) (vec_items v) c.in-Some.ensures.values.1 (omega (arith, v.ok.0, eqb-true (vec_len v) 0 (sym c.if-is-empty.ensures)));

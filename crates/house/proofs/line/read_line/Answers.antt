@@ -9,8 +9,8 @@ use Rattle.house.proofs.line.read_line.Goals as goal
 looked : (line : List ℕ) (n : ℕ) → n ≡ content_size line → take (n - 0) line ≡ content line
 looked line n e = let k : n - 0 ≡ content_size line = omega arith in ap (λ m. take m line) k
 
-pub returns_then_is_skipped : goal.returns_then_is_skipped
-returns_then_is_skipped c =
+pub returns-then-is-skipped : goal.returns-then-is-skipped
+returns-then-is-skipped c =
     let line = c.args.line.now in
     let n = c.content-len.result in
     record { says = by_nothing (take (n - 0) line) c.if-is-skipped.ensures ∙ ap statement (looked line n c.content-len.ensures.value); few = omega arith }

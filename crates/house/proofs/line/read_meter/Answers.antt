@@ -6,20 +6,20 @@ use Rattle.house.specs.Words.{words}
 use Rattle.house.proofs.Saying.{behind, no_address, no_bodies, no_primary, whole_meter}
 use Rattle.house.proofs.line.read_meter.Goals as goal
 
-pub returns_in_default : goal.returns_in_default
-returns_in_default c =
+pub returns-in-default : goal.returns-in-default
+returns-in-default c =
     let ws = words c.args.text.now in
     let P : Option Address → Type 0 = λ o. AddressFrom o (word_at ws 0) (word_at ws 1) (word_at ws 2) (word_at ws 3) in
     record { says = no_address ws (subst P c.in-default.is c.next-address-address.ensures.address); few = omega arith }
 
-pub returns_then_not_spell : goal.returns_then_not_spell
-returns_then_not_spell c =
+pub returns-then-not-spell : goal.returns-then-not-spell
+returns-then-not-spell c =
     let ws = words c.args.text.now in
     let b = behind ws (words c.next-address-address.result.1.now) (words c.next-word.result.1.now) c.next-word.result.0.now c.next-address-address.ensures.rest c.next-word.ensures.word c.next-word.ensures.rest in
     record { says = no_primary ws c.next-word.result.0.now (words c.next-word.result.1.now) b (sym c.if-not-spell.ensures); few = omega arith }
 
-pub returns_in_default_read_all : goal.returns_in_default_read_all
-returns_in_default_read_all c =
+pub returns-in-default-read-all : goal.returns-in-default-read-all
+returns-in-default-read-all c =
     let ws = words c.args.text.now in
     let b = behind ws (words c.next-address-address.result.1.now) (words c.next-word.result.1.now) c.next-word.result.0.now c.next-address-address.ensures.rest c.next-word.ensures.word c.next-word.ensures.rest in
     record { says = no_bodies ws c.next-word.result.0.now (words c.next-word.result.1.now) b c.in-default-read-all.ensures.values; few = omega arith }

@@ -3,8 +3,8 @@ use Rattle.house.specs.Words.{words}
 use Rattle.house.proofs.Saying.{number_alone, number_second, second_word}
 use Rattle.house.proofs.line.read_number.Goals as goal
 
-pub returns_then_not_is_empty : goal.returns_then_not_is_empty
-returns_then_not_is_empty c =
+pub returns-then-not-is-empty : goal.returns-then-not-is-empty
+returns-then-not-is-empty c =
     let ws = words c.args.text.now in
     let e = second_word ws (words c.next-word.result.1.now) c.next-word-2.result.0.now c.next-word-2.ensures.word c.next-word.ensures.rest in
     record { small = tt; value = number_second c.args.most ws c.next-word-2.result.0.now e c.if-not-is-empty.ensures }

@@ -4,19 +4,19 @@ use Rattle.input.proofs.Pairs.{convert_open, convert_byte, convert_stray, conver
 use Rattle.input.proofs.hex.convert.Goals as goal
 use Rattle.input.proofs.hex.convert.Goals.{in-Open, in-Byte}
 
-pub loop_i_init : goal.loop_i_init
-loop_i_init c = record { few = omega arith; same_length = refl; small = tt; rest = refl; bytes = all_left (bytes_from c.args.text.now None) }
+pub loop-i-init : goal.loop-i-init
+loop-i-init c = record { few = omega arith; same_length = refl; small = tt; rest = refl; bytes = all_left (bytes_from c.args.text.now None) }
 
-pub read_character_requires : goal.read_character_requires
-read_character_requires c = c.loop-i.invariant.small
+pub read-character-requires : goal.read-character-requires
+read-character-requires c = c.loop-i.invariant.small
 
-pub unreachable_requires : goal.unreachable_requires
-unreachable_requires c =
+pub unreachable-requires : goal.unreachable-requires
+unreachable-requires c =
     let l = c.loop-i in
     convert_stray c.args.text.now l.text l.i l.count l.high (omega arith) l.invariant c.requires c.in-Stray.ensures.value
 
-pub loop_i_preserved : goal.loop_i_preserved
-loop_i_preserved c =
+pub loop-i-preserved : goal.loop-i-preserved
+loop-i-preserved c =
     let l = c.loop-i in
     elim c.match-read-character.branch [
       | in-Open w ↦ convert_open c.args.text.now l.text l.i l.count l.high (omega arith) l.invariant _ _ _ _ w.in-Open.ensures.value w.in-Open.ensures.small w.text-is w.count_is w.high-is

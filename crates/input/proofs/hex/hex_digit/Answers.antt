@@ -2,21 +2,21 @@ use Rattle.std.proofs.Common.{rules}
 use Rattle.input.specs.Hex.{hex_value}
 use Rattle.input.proofs.hex.hex_digit.Goals as goal
 
-pub returns_in_48_to_57 : goal.returns_in_48_to_57
+pub returns-in-48-to-57 : goal.returns-in-48-to-57
 unfolding hex_value
-returns_in_48_to_57 c = search rules
+returns-in-48-to-57 c = search rules
 
-pub returns_in_65_to_70 : goal.returns_in_65_to_70
+pub returns-in-65-to-70 : goal.returns-in-65-to-70
 unfolding hex_value
-returns_in_65_to_70 c = search rules
+returns-in-65-to-70 c = search rules
 
-pub returns_in_97_to_102 : goal.returns_in_97_to_102
+pub returns-in-97-to-102 : goal.returns-in-97-to-102
 unfolding hex_value
-returns_in_97_to_102 c = search rules
+returns-in-97-to-102 c = search rules
 
-pub returns_in_default : goal.returns_in_default
+pub returns-in-default : goal.returns-in-default
 unfolding hex_value
-returns_in_default c = search rules
+returns-in-default c = search rules
 
 pub returns-in-default·2 : goal.returns-in-default·2
 unfolding hex_value

@@ -3,22 +3,22 @@ use Rattle.input.proofs.Pairs.{test_open, test_byte, test_stray, test_end, turne
 use Rattle.input.proofs.hex.is_hexadecimal.Goals as goal
 use Rattle.input.proofs.hex.is_hexadecimal.Goals.{in-Open, in-Byte}
 
-pub loop_c_init : goal.loop_c_init
-loop_c_init c = record { small = tt; left = refl }
+pub loop-c-init : goal.loop-c-init
+loop-c-init c = record { small = tt; left = refl }
 
-pub read_character_requires : goal.read_character_requires
-read_character_requires c = c.loop-c.invariant.small
+pub read-character-requires : goal.read-character-requires
+read-character-requires c = c.loop-c.invariant.small
 
-pub loop_c_preserved : goal.loop_c_preserved
-loop_c_preserved c =
+pub loop-c-preserved : goal.loop-c-preserved
+loop-c-preserved c =
     let l = c.loop-c in
     elim c.match-read-character.branch [
       | in-Open w ↦ test_open c.args.text.now l.c-index l.high c.loop-c-test.true l.invariant _ _ w.in-Open.ensures.value w.in-Open.ensures.small w.high-is
       | in-Byte w ↦ test_byte c.args.text.now l.c-index l.high c.loop-c-test.true l.invariant _ _ w.in-Byte.ensures.value w.high-is
     ]
 
-pub returns_in_Stray : goal.returns_in_Stray
-returns_in_Stray c =
+pub returns-in-Stray : goal.returns-in-Stray
+returns-in-Stray c =
     test_stray c.args.text.now c.loop-c.c-index c.loop-c.high c.loop-c-test.true c.loop-c.invariant c.in-Stray.ensures.value
 
 pub returns : goal.returns

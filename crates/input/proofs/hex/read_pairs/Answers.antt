@@ -2,8 +2,8 @@ use Rattle.std.proofs.Common.{refl}
 use Rattle.input.proofs.Spelling.{spelled, stray, stray_value}
 use Rattle.input.proofs.hex.read_pairs.Goals as goal
 
-pub returns_then_not_is_hexadecimal : goal.returns_then_not_is_hexadecimal
-returns_then_not_is_hexadecimal c =
+pub returns-then-not-is-hexadecimal : goal.returns-then-not-is-hexadecimal
+returns-then-not-is-hexadecimal c =
     record { none = stray c.args.text.now c.if-not-is-hexadecimal.ensures; value = stray_value c.args.text.now c.if-not-is-hexadecimal.ensures; same = refl }
 
 pub returns : goal.returns

@@ -2,16 +2,16 @@ use Rattle.std.proofs.Common.{◌≡◌, ◌-◌, length, take, rules}
 use Rattle.input.proofs.Judging.{skipped_line, dash_line, unreadable_line, telegram_line}
 use Rattle.input.proofs.line.read_line.Goals as goal
 
-pub returns_then_is_skipped : goal.returns_then_is_skipped
-returns_then_is_skipped c =
+pub returns-then-is-skipped : goal.returns-then-is-skipped
+returns-then-is-skipped c =
     skipped_line c.args.line.now c.content-len-end.result c.content-len-end.ensures.value c.if-is-skipped.ensures
 
-pub returns_then_is_dash : goal.returns_then_is_dash
-returns_then_is_dash c =
+pub returns-then-is-dash : goal.returns-then-is-dash
+returns-then-is-dash c =
     dash_line c.args.line.now c.content-len-end.result c.content-len-end.ensures.value c.if-is-skipped.ensures c.if-is-dash.ensures
 
-pub returns_then_not_is_hexadecimal : goal.returns_then_not_is_hexadecimal
-returns_then_not_is_hexadecimal c =
+pub returns-then-not-is-hexadecimal : goal.returns-then-not-is-hexadecimal
+returns-then-not-is-hexadecimal c =
     unreadable_line c.args.line.now c.content-len-end.result c.content-len-end.ensures.value c.if-is-skipped.ensures c.if-is-dash.ensures c.if-not-is-hexadecimal.ensures
 
 pub returns : goal.returns

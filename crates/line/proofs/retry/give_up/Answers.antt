@@ -8,7 +8,7 @@ one_zero : filled [] ≡ filled (0 ∷ [])
 unfolding filled
 one_zero = refl
 
-pub returns_else_silent : goal.returns_else_silent
-returns_else_silent c =
+pub returns-else-silent : goal.returns-else-silent
+returns-else-silent c =
     let e = sym (ap last_reply c.if-silent.false) in
     record { buffer = c.new-buffer.ensures ∙ one_zero ∙ ap filled e; count = ap length e }

@@ -3,7 +3,7 @@ use Rattle.telegram.specs.Replies.{answers}
 use Rattle.line.proofs.Replying.{silence_no_answer}
 use Rattle.line.proofs.retry.is_answered.Goals as goal
 
-pub returns_else_count_gt0 : goal.returns_else_count_gt0
-returns_else_count_gt0 c =
+pub returns-else-count-gt0 : goal.returns-else-count-gt0
+returns-else-count-gt0 c =
     let none : c.args.count ≡ 0 = omega arith in
     ap (ltb 0) none ∙ sym (ap (λ n. answers (take n c.args.reply.now)) none ∙ silence_no_answer)

@@ -3,8 +3,8 @@ use Rattle.std.proofs.lemmas.List.{take_all}
 use Rattle.std.proofs.lemmas.List.Sums.{sum_by_more}
 use Rattle.link.proofs.reading.checksum.Goals as goal
 
-pub loop_b_preserved : goal.loop_b_preserved
-loop_b_preserved c =
+pub loop-b-preserved : goal.loop-b-preserved
+loop-b-preserved c =
     omega (arith, sum_by_more (λ x. x) c.args.bytes.now c.loop-b.b-index 0 (omega arith))
 
 pub returns : goal.returns

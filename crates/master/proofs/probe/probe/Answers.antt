@@ -2,15 +2,15 @@ use Rattle.std.proofs.Common.{Err, ◌∙◌}
 use Rattle.master.proofs.Probing.{answered_probe, read_is, read_one, silent_probe, told_several}
 use Rattle.master.proofs.probe.probe.Goals as goal
 
-pub returns_then_send_eq0 : goal.returns_then_send_eq0
-returns_then_send_eq0 g c =
+pub returns-then-send-eq0 : goal.returns-then-send-eq0
+returns-then-send-eq0 g c =
     record {
       probed = silent_probe _ _ _ c.pattern.result.bytes _ _ c.pattern.ensures.bytes c.send.ensures.sent.exchanged c.if-send-eq0.true;
       layers = c.send.ensures.layers;
     }
 
-pub returns_in_Ok : goal.returns_in_Ok
-returns_in_Ok g c =
+pub returns-in-Ok : goal.returns-in-Ok
+returns-in-Ok g c =
     let n = c.send-count.result in
     let buffer = c.send-count.new.reply in
     let reply = c.in-Ok.reply in
@@ -20,8 +20,8 @@ returns_in_Ok g c =
       layers = c.send-count.ensures.layers ∙ c.send.ensures.layers;
     }
 
-pub returns_in_Err : goal.returns_in_Err
-returns_in_Err g c =
+pub returns-in-Err : goal.returns-in-Err
+returns-in-Err g c =
     let n = c.send-count.result in
     let buffer = c.send-count.new.reply in
     record {

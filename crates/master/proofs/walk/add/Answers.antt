@@ -1,8 +1,8 @@
 use Rattle.master.proofs.Pushing.{Added, added, added_some}
 use Rattle.master.proofs.walk.add.Goals as goal
 
-pub returns_in_Some : goal.returns_in_Some
-returns_in_Some c =
+pub returns-in-Some : goal.returns-in-Some
+returns-in-Some c =
     let l = c.args.list.now in
     let l' = c.push.new.self in
     let p = c.push.ensures in

@@ -10,19 +10,19 @@ use Rattle.master.proofs.Pushing.{filled_start}
 use Rattle.master.proofs.Walking.{sofar_full, sofar_less, sofar_next, sofar_small, sofar_start, sofar_whole}
 use Rattle.master.proofs.walk.walk.Goals as goal
 
-pub walk_init : goal.walk_init
-walk_init g c =
+pub walk-init : goal.walk-init
+walk-init g c =
     let none = ap (λ n. take n (all_places c.clear.new.self)) c.clear.ensures.used in
     (sofar_start _ _ _ c.first-at.ensures.digits (ap (map entry_of) none), filled_start _ c.clear.new.self refl, refl, refl)
 
-pub overflow_add_selections : goal.overflow_add_selections
-overflow_add_selections g c = let small = sofar_small _ _ (g.L.Line.means c.walk.line) _ _ _ c.walk.invariant.0 in omega arith
+pub overflow-add-selections : goal.overflow-add-selections
+overflow-add-selections g c = let small = sofar_small _ _ (g.L.Line.means c.walk.line) _ _ _ c.walk.invariant.0 in omega arith
 
-pub walk_smaller : goal.walk_smaller
-walk_smaller g c = sofar_less _ _ _ _ _ _ c.walk.invariant.0 _ c.probe-verdict.ensures.probed (digits_of c.in-Some.next) c.in-Some.ensures.next
+pub walk-smaller : goal.walk-smaller
+walk-smaller g c = sofar_less _ _ _ _ _ _ c.walk.invariant.0 _ c.probe-verdict.ensures.probed (digits_of c.in-Some.next) c.in-Some.ensures.next
 
-pub walk_preserved : goal.walk_preserved
-walk_preserved g c =
+pub walk-preserved : goal.walk-preserved
+walk-preserved g c =
     let added = c.in-Ok.ensures.cases in
     let more = ap (map entry_of) added ∙ map-append entry_of (entries_of c.walk.list) (option_to_list c.entry.result) ∙ ap (λ l. map entry_of (entries_of c.walk.list) ++ l) c.entry.ensures.found in (
       sofar_next _ _ _ _ _ _ c.walk.invariant.0 _ c.probe-verdict.ensures.probed (digits_of c.in-Some.next) c.in-Some.ensures.next _ more,
@@ -31,8 +31,8 @@ walk_preserved g c =
       c.probe-verdict.ensures.layers ∙ c.walk.invariant.3,
     )
 
-pub returns_in_default : goal.returns_in_default
-returns_in_default g c =
+pub returns-in-default : goal.returns-in-default
+returns-in-default g c =
     let l = c.add.new.list in
     let refused = c.in-default.ensures.cases in
     let same = ap (map entry_of) refused.1 in
@@ -47,8 +47,8 @@ returns_in_default g c =
       layers = c.probe-verdict.ensures.layers ∙ c.walk.invariant.3;
     }
 
-pub returns_in_default_after : goal.returns_in_default_after
-returns_in_default_after g c =
+pub returns-in-default-after : goal.returns-in-default-after
+returns-in-default-after g c =
     let added = c.in-Ok.ensures.cases in
     let more = ap (map entry_of) added ∙ map-append entry_of (entries_of c.walk.list) (option_to_list c.entry.result) ∙ ap (λ l. map entry_of (entries_of c.walk.list) ++ l) c.entry.ensures.found in
     let filled = c.in-Ok.ensures.filled _ c.walk.invariant.1 in

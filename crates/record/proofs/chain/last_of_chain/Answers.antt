@@ -4,14 +4,14 @@ use Rattle.record.specs.Chains.{extended}
 use Rattle.record.proofs.Leading.{walk_on, walk_stop, walk_end}
 use Rattle.record.proofs.chain.last_of_chain.Goals as goal
 
-pub loop_at_preserved : goal.loop_at_preserved
-loop_at_preserved c =
+pub loop-at-preserved : goal.loop-at-preserved
+loop-at-preserved c =
     walk_on extended c.args.bytes.now c.args.first c.loop-at.at c.loop-at.invariant (omega arith) (le-leb 128 _ c.if-bytes-at-ge128.true)
 
-pub returns_else_bytes_at_ge128 : goal.returns_else_bytes_at_ge128
-returns_else_bytes_at_ge128 c =
+pub returns-else-bytes-at-ge128 : goal.returns-else-bytes-at-ge128
+returns-else-bytes-at-ge128 c =
     walk_stop extended c.args.bytes.now c.args.first c.loop-at.at c.loop-at.invariant (omega arith) (lt-leb 128 _ c.if-bytes-at-ge128.false)
 
-pub returns_after_loop_at : goal.returns_after_loop_at
-returns_after_loop_at c =
+pub returns-after-loop-at : goal.returns-after-loop-at
+returns-after-loop-at c =
     walk_end extended c.args.bytes.now c.args.first c.loop-at.at c.loop-at.invariant (omega arith)

@@ -7,44 +7,44 @@ use Rattle.record.proofs.chain.register_of.Goals as goal
 few : (base : ℕ) (digit : ℕ → ℕ) (bs : List ℕ) (i n : ℕ) → 0 < base → length bs ≤ 10 → Read base digit 1 bs i n → n + 1 ≤ base ^ 10
 few base digit bs i n p h r = omega (arith, r.bound, pow_most base (length bs - i) 10 p (omega arith))
 
-pub overflow_mul_storage : goal.overflow_mul_storage
-overflow_mul_storage c = record { fits = omega (arith, few 16 _ c.args.difes.now _ _ (omega arith) (omega arith) c.loop-i.invariant.0) }
+pub overflow-mul-storage : goal.overflow-mul-storage
+overflow-mul-storage c = record { fits = omega (arith, few 16 _ c.args.difes.now _ _ (omega arith) (omega arith) c.loop-i.invariant.0) }
 
-pub overflow_add_storage : goal.overflow_add_storage
-overflow_add_storage c = record { fits = omega (arith, few 16 _ c.args.difes.now _ _ (omega arith) (omega arith) c.loop-i.invariant.0) }
+pub overflow-add-storage : goal.overflow-add-storage
+overflow-add-storage c = record { fits = omega (arith, few 16 _ c.args.difes.now _ _ (omega arith) (omega arith) c.loop-i.invariant.0) }
 
-pub overflow_mul_tariff : goal.overflow_mul_tariff
-overflow_mul_tariff c = record { fits = omega (arith, few 4 _ c.args.difes.now _ _ (omega arith) (omega arith) c.loop-i.invariant.1) }
+pub overflow-mul-tariff : goal.overflow-mul-tariff
+overflow-mul-tariff c = record { fits = omega (arith, few 4 _ c.args.difes.now _ _ (omega arith) (omega arith) c.loop-i.invariant.1) }
 
-pub overflow_add_tariff : goal.overflow_add_tariff
-overflow_add_tariff c = record { fits = omega (arith, few 4 _ c.args.difes.now _ _ (omega arith) (omega arith) c.loop-i.invariant.1) }
+pub overflow-add-tariff : goal.overflow-add-tariff
+overflow-add-tariff c = record { fits = omega (arith, few 4 _ c.args.difes.now _ _ (omega arith) (omega arith) c.loop-i.invariant.1) }
 
-pub overflow_mul_subunit : goal.overflow_mul_subunit
-overflow_mul_subunit c = record { fits = omega (arith, few 2 _ c.args.difes.now _ _ (omega arith) (omega arith) c.loop-i.invariant.2) }
+pub overflow-mul-subunit : goal.overflow-mul-subunit
+overflow-mul-subunit c = record { fits = omega (arith, few 2 _ c.args.difes.now _ _ (omega arith) (omega arith) c.loop-i.invariant.2) }
 
-pub overflow_add_subunit : goal.overflow_add_subunit
-overflow_add_subunit c = record { fits = omega (arith, few 2 _ c.args.difes.now _ _ (omega arith) (omega arith) c.loop-i.invariant.2) }
+pub overflow-add-subunit : goal.overflow-add-subunit
+overflow-add-subunit c = record { fits = omega (arith, few 2 _ c.args.difes.now _ _ (omega arith) (omega arith) c.loop-i.invariant.2) }
 
-pub loop_i_init : goal.loop_i_init
-loop_i_init c =
+pub loop-i-init : goal.loop-i-init
+loop-i-init c =
     (read_none 16 _ 1 c.args.difes.now, read_none 4 _ 1 c.args.difes.now, read_none 2 _ 1 c.args.difes.now)
 
 -- one DIFE more, of whose bits the digit d is read
 more : (base : ℕ) (digit : ℕ → ℕ) (bs : List ℕ) (i n d : ℕ) → 0 < i → i ≤ length bs → d < base → Read base digit 1 bs i n → d ≡ digit (get_or bs (i - 1) 0) → Read base digit 1 bs (i - 1) (n * base + d)
 more base digit bs i n d pos h small r e = read_more base digit 1 bs i n d pos h (omega arith) r e
 
-pub loop_i_preserved : goal.loop_i_preserved
-loop_i_preserved c = (
+pub loop-i-preserved : goal.loop-i-preserved
+loop-i-preserved c = (
   more 16 _ c.args.difes.now c.loop-i.i _ _ (omega arith) (omega arith) (omega arith) c.loop-i.invariant.0 c.from.ensures,
   more 4 _ c.args.difes.now c.loop-i.i _ _ (omega arith) (omega arith) (omega arith) c.loop-i.invariant.1 c.from-in-loop-i.ensures,
   more 2 _ c.args.difes.now c.loop-i.i _ _ (omega arith) (omega arith) (omega arith) c.loop-i.invariant.2 c.from-in-loop-i-2.ensures,
 )
 
-pub overflow_mul_result : goal.overflow_mul_result
-overflow_mul_result c = record { fits = omega (arith, few 16 _ c.args.difes.now _ _ (omega arith) (omega arith) c.loop-i.invariant.0) }
+pub overflow-mul-result : goal.overflow-mul-result
+overflow-mul-result c = record { fits = omega (arith, few 16 _ c.args.difes.now _ _ (omega arith) (omega arith) c.loop-i.invariant.0) }
 
-pub overflow_add_result : goal.overflow_add_result
-overflow_add_result c = record { fits = omega (arith, few 16 _ c.args.difes.now _ _ (omega arith) (omega arith) c.loop-i.invariant.0) }
+pub overflow-add-result : goal.overflow-add-result
+overflow-add-result c = record { fits = omega (arith, few 16 _ c.args.difes.now _ _ (omega arith) (omega arith) c.loop-i.invariant.0) }
 
 -- all DIFEs, by weights from number 1 on
 all_read : (base : ℕ) (digit : ℕ → ℕ) (bs : List ℕ) (i n : ℕ) → i ≤ 0 → Read base digit 1 bs i n → n ≡ total (λ i. base ^ (i - 1)) digit 1 bs

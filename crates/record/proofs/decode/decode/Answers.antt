@@ -9,8 +9,8 @@ use Rattle.record.proofs.Standing.{within}
 use Rattle.record.specs.declared.decode.Decoded.{Decoded}
 use Rattle.record.proofs.decode.decode.Goals as goal
 
-pub returns_in_err_dib : goal.returns_in_err_dib
-returns_in_err_dib c =
+pub returns-in-err-dib : goal.returns-in-err-dib
+returns-in-err-dib c =
     let bs = c.args.bytes.now in
     let p = c.args.at in
     let e = c.in-err-dib.field-0.0 in
@@ -19,8 +19,8 @@ returns_in_err_dib c =
     let h = handed_on c.from-residual.result r.0 e _ _ _ r.1 r.2 told in
     record { fault = h.0; order = refusal_order bs p _ h.0; value = h.1; within = h.2 }
 
-pub returns_in_err_vib : goal.returns_in_err_vib
-returns_in_err_vib c =
+pub returns-in-err-vib : goal.returns-in-err-vib
+returns-in-err-vib c =
     let bs = c.args.bytes.now in
     let p = c.args.at in
     let e = c.in-err-vib.field-0.0 in
@@ -30,8 +30,8 @@ returns_in_err_vib c =
     let h = handed_on c.from-residual-in-err-vib.result r.0 e _ _ _ r.1 r.2 told in
     record { fault = h.0; order = refusal_order bs p _ h.0; value = h.1; within = h.2 }
 
-pub returns_in_err_valued : goal.returns_in_err_valued
-returns_in_err_valued c =
+pub returns-in-err-valued : goal.returns-in-err-valued
+returns-in-err-valued c =
     let bs = c.args.bytes.now in
     let p = c.args.at in
     let e = c.in-err-valued.field-0.0 in

@@ -2,20 +2,20 @@ use Rattle.std.proofs.Common.{length, arith, rules}
 use Rattle.record.proofs.Decimals.{bad_told, few_digits, none_bad}
 use Rattle.record.proofs.number.decimal.Goals as goal
 
-pub returns_then_bad_bytes : goal.returns_then_bad_bytes
-returns_then_bad_bytes c =
+pub returns-then-bad-bytes : goal.returns-then-bad-bytes
+returns-then-bad-bytes c =
     record { fault = bad_told c.args.place c.read-digits-value.result.bad c.args.bytes.now c.read-digits-value.ensures.bad (omega arith); value = tt }
 
-pub overflow_cast_n : goal.overflow_cast_n
-overflow_cast_n c =
+pub overflow-cast-n : goal.overflow-cast-n
+overflow-cast-n c =
     let h = few_digits (length c.args.bytes.now) _ (omega arith) c.read-digits-value.ensures.bound in
     search rules
 
-pub overflow_sub_result : goal.overflow_sub_result
-overflow_sub_result c = let h = few_digits (length c.args.bytes.now) _ (omega arith) c.read-digits-value.ensures.bound in search rules
+pub overflow-sub-result : goal.overflow-sub-result
+overflow-sub-result c = let h = few_digits (length c.args.bytes.now) _ (omega arith) c.read-digits-value.ensures.bound in search rules
 
-pub returns_then_bytes_ge240 : goal.returns_then_bytes_ge240
-returns_then_bytes_ge240 c =
+pub returns-then-bytes-ge240 : goal.returns-then-bytes-ge240
+returns-then-bytes-ge240 c =
     let h = few_digits (length c.args.bytes.now) _ (omega arith) c.read-digits-value.ensures.bound in
     record {
       fault = none_bad c.args.place c.read-digits-value.result.bad c.args.bytes.now c.read-digits-value.ensures.bad (omega arith);

@@ -5,13 +5,13 @@ use Rattle.record.proofs.Positions.{half_is, half_twice, pow_most}
 use Rattle.record.proofs.number.integer.Goals as goal
 use Rattle.record.proofs.number.integer.Goals.{then-negative, else-negative}
 
-pub overflow_sub_distance_then_negative_2 : goal.overflow_sub_distance_then_negative_2
-overflow_sub_distance_then_negative_2 c =
+pub overflow-sub-distance-then-negative-2 : goal.overflow-sub-distance-then-negative-2
+overflow-sub-distance-then-negative-2 c =
     let k = length c.args.bytes.now in
     omega (arith, half_is k (omega arith) (omega arith), half_twice k (omega arith), c.unsigned-n.ensures.bound)
 
-pub returns_then_negative_2 : goal.returns_then_negative_2
-returns_then_negative_2 c =
+pub returns-then-negative-2 : goal.returns-then-negative-2
+returns-then-negative-2 c =
     let k = length c.args.bytes.now in
     let half : ℕ = 2 ^ (8 * k - 1) in
     let n = c.unsigned-n.result in

@@ -13,29 +13,29 @@ few m h = omega (arith, pow_most 100 m 8 (omega arith) h)
 small : (b : ℕ) → b < 256 → pair b + 2 ≤ 2 * 100
 small b h = omega arith
 
-pub loop_i_init : goal.loop_i_init
-loop_i_init c =
+pub loop-i-init : goal.loop-i-init
+loop-i-init c =
     let bs = c.args.bytes.now in
     let P : ℕ → Type 0 = λ i. Read 100 pair 2 (magnitude bs) i 0 in
     (subst P (length_magnitude bs) (read_none 100 pair 2 (magnitude bs)), lead_none decimal (magnitude bs) (length bs) (length_magnitude bs))
 
-pub overflow_mul_value : goal.overflow_mul_value
-overflow_mul_value c =
+pub overflow-mul-value : goal.overflow-mul-value
+overflow-mul-value c =
     let bs = magnitude c.args.bytes.now in
     let e = length_magnitude c.args.bytes.now in
     let h = read_fits 100 pair 2 bs c.loop-i.i c.loop-i.value 0 (omega arith) (omega arith) (omega arith) c.loop-i.invariant.0 (omega arith) (omega arith) (few (length bs) (omega arith)) in
     record { fits = omega arith }
 
-pub overflow_add_value_in_loop_i : goal.overflow_add_value_in_loop_i
-overflow_add_value_in_loop_i c =
+pub overflow-add-value-in-loop-i : goal.overflow-add-value-in-loop-i
+overflow-add-value-in-loop-i c =
     let bs = magnitude c.args.bytes.now in
     let e = length_magnitude c.args.bytes.now in
     record {
       fits = read_fits 100 pair 2 bs c.loop-i.i c.loop-i.value (pair c.from-b.result) (omega arith) (omega arith) (small c.from-b.result (omega arith)) c.loop-i.invariant.0 (omega arith) (omega arith) (few (length bs) (omega arith));
     }
 
-pub loop_i_preserved : goal.loop_i_preserved
-loop_i_preserved c =
+pub loop-i-preserved : goal.loop-i-preserved
+loop-i-preserved c =
     let bs = magnitude c.args.bytes.now in
     let e = length_magnitude c.args.bytes.now in (
       read_more 100 pair 2 bs c.loop-i.i c.loop-i.value (pair c.from-b.result) (omega arith) (omega arith) (small c.from-b.result (omega arith)) c.loop-i.invariant.0

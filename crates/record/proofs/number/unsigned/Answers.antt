@@ -5,24 +5,24 @@ use Rattle.record.proofs.number.unsigned.Goals as goal
 few : (m : ℕ) → m ≤ 8 → 1 * 256 ^ m ≤ 2 ^ 64
 few m h = omega (arith, pow_most 256 m 8 (omega arith) h)
 
-pub loop_i_init : goal.loop_i_init
-loop_i_init c = read_none 256 (λ b. b) 1 c.args.bytes.now
+pub loop-i-init : goal.loop-i-init
+loop-i-init c = read_none 256 (λ b. b) 1 c.args.bytes.now
 
-pub overflow_mul_n : goal.overflow_mul_n
-overflow_mul_n c =
+pub overflow-mul-n : goal.overflow-mul-n
+overflow-mul-n c =
     let bs = c.args.bytes.now in
     let h = read_fits 256 (λ b. b) 1 bs c.loop-i.i c.loop-i.n 0 (omega arith) (omega arith) (omega arith) c.loop-i.invariant (omega arith) (omega arith) (few (length bs) (omega arith)) in
     record { fits = omega arith }
 
-pub overflow_add_n : goal.overflow_add_n
-overflow_add_n c =
+pub overflow-add-n : goal.overflow-add-n
+overflow-add-n c =
     let bs = c.args.bytes.now in
     record {
       fits = read_fits 256 (λ b. b) 1 bs c.loop-i.i c.loop-i.n c.from.result (omega arith) (omega arith) (search rules) c.loop-i.invariant (omega arith) (omega arith) (few (length bs) (omega arith));
     }
 
-pub loop_i_preserved : goal.loop_i_preserved
-loop_i_preserved c =
+pub loop-i-preserved : goal.loop-i-preserved
+loop-i-preserved c =
     read_more 256 (λ b. b) 1 c.args.bytes.now c.loop-i.i c.loop-i.n c.from.result (omega arith) (omega arith) (search rules) c.loop-i.invariant c.from.ensures
 
 pub returns : goal.returns

@@ -2,11 +2,11 @@ use Rattle.std.proofs.Common.{arith}
 use Rattle.telegram.proofs.Replying.{never_garbled, garbled_by}
 use Rattle.telegram.proofs.reply.is_garbled.Goals as goal
 
-pub returns_then_bytes_eq0 : goal.returns_then_bytes_eq0
-returns_then_bytes_eq0 c = never_garbled c.args.bytes.now (λ g. omega (arith, g.some-bytes))
+pub returns-then-bytes-eq0 : goal.returns-then-bytes-eq0
+returns-then-bytes-eq0 c = never_garbled c.args.bytes.now (λ g. omega (arith, g.some-bytes))
 
-pub returns_then_bytes_gt_MOST_BYTES : goal.returns_then_bytes_gt_MOST_BYTES
-returns_then_bytes_gt_MOST_BYTES c = never_garbled c.args.bytes.now (λ g. omega (arith, g.few-bytes))
+pub returns-then-bytes-gt-MOST-BYTES : goal.returns-then-bytes-gt-MOST-BYTES
+returns-then-bytes-gt-MOST-BYTES c = never_garbled c.args.bytes.now (λ g. omega (arith, g.few-bytes))
 
 pub returns : goal.returns
 returns c = garbled_by c.args.bytes.now c.is-answer.result (omega arith) (omega arith) c.is-answer.ensures

@@ -8,8 +8,8 @@ use Rattle.bench.proofs.Ordering.{order_of}
 use Rattle.bench.proofs.Stretches.{longest_is}
 use Rattle.bench.proofs.bench.Bench.new.Goals as goal
 
-pub returns_in_err_check : goal.returns_in_err_check
-returns_in_err_check c =
+pub returns-in-err-check : goal.returns-in-err-check
+returns-in-err-check c =
     let rows = vec_items c.args.rows in
     let area = vec_items c.args.area in
     let codes = vec_items c.args.codes in
@@ -25,24 +25,24 @@ returns_in_err_check c =
       run = longest_is codes;
     }
 
-pub invariant_of_new : goal.invariant_of_new
-invariant_of_new c =
+pub invariant-of-new : goal.invariant-of-new
+invariant-of-new c =
     let rows = vec_items c.args.rows in
     let area = vec_items c.args.area in
     let codes = vec_items c.args.codes in
     let none = refusal_at rows area codes {o = None} c.as-slice.ensures.value c.as-slice-2.ensures.value c.as-slice-3.ensures.value c.in-ok-check.ensures in
     ((accepted rows area codes none).fitting, tt)
 
-pub invariant_of_faults : goal.invariant_of_faults
-invariant_of_faults c =
+pub invariant-of-faults : goal.invariant-of-faults
+invariant-of-faults c =
     let rows = vec_items c.args.rows in
     let area = vec_items c.args.area in
     let codes = vec_items c.args.codes in
     let none = refusal_at rows area codes {o = None} c.as-slice.ensures.value c.as-slice-2.ensures.value c.as-slice-3.ensures.value c.in-ok-check.ensures in
     (omega (arith, (accepted rows area codes none).few_codes, c.args.codes.ok.0), tt)
 
-pub invariant_of_result : goal.invariant_of_result
-invariant_of_result c =
+pub invariant-of-result : goal.invariant-of-result
+invariant-of-result c =
     let rows = vec_items c.args.rows in
     let area = vec_items c.args.area in
     let codes = vec_items c.args.codes in

@@ -4,8 +4,8 @@ use Rattle.bench.specs.Codes.{code_of}
 use Rattle.bench.proofs.fault_codes.FaultCodes.next.Goals as goal
 
 -- past the last code
-pub returns_then_self_count : goal.returns_then_self_count
-returns_then_self_count c =
+pub returns-then-self-count : goal.returns-then-self-count
+returns-then-self-count c =
     let codes = c.args.self.now.codes in
     let size : c.len-count.result ≡ length (vec_items codes) = omega (arith, codes.ok.0) in
     let past : length (vec_items codes) ≤ c.args.self.now.position = omega arith in

@@ -7,8 +7,8 @@ use Rattle.bench.proofs.Tabling.{body_stands, no_meter, no_telegram, past_in, st
 use Rattle.bench.proofs.table.RowTableTable.write.Goals as goal
 
 -- no row
-pub returns_in_default : goal.returns_in_default
-returns_in_default c =
+pub returns-in-default : goal.returns-in-default
+returns-in-default c =
     let t = c.args.self.now in
     let past = past_in c.deref.ensures.value c.in-default.ensures.lookup.3 in
     let e : telegram_at (meters_of (vec_items t.rows) (vec_items t.area)) c.args.row c.args.place ≡ [] =
@@ -16,8 +16,8 @@ returns_in_default c =
     record { buffer = c.fill.ensures.buffer ∙ ap filled (sym e); count = c.fill.ensures.count ∙ ap length (sym e) }
 
 -- no body
-pub returns_in_default_get : goal.returns_in_default_get
-returns_in_default_get c =
+pub returns-in-default-get : goal.returns-in-default-get
+returns-in-default-get c =
     let t = c.args.self.now in
     let h = stands_in c.deref.ensures.value c.in-Some.ensures.lookup.3 in
     let past = past_in c.deref-2.ensures.value c.in-default-get.ensures.lookup.3 in
@@ -25,8 +25,8 @@ returns_in_default_get c =
     no_telegram (vec_items t.rows) (vec_items t.area) c.args.row c.in-Some.row.now h c.args.place past in
     record { buffer = c.fill-in-default-get.ensures.buffer ∙ ap filled (sym e); count = c.fill-in-default-get.ensures.count ∙ ap length (sym e) }
 
-pub bytes_requires : goal.bytes_requires
-bytes_requires c =
+pub bytes-requires : goal.bytes-requires
+bytes-requires c =
     let t = c.args.self.now in
     let h = stands_in c.deref.ensures.value c.in-Some.ensures.lookup.3 in
     let k = stands_in c.deref-2.ensures.value c.in-Some-get.ensures.lookup.3 in

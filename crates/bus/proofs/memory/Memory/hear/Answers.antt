@@ -1,11 +1,11 @@
 use Rattle.line.specs.Buses.{hear, selected}
 use Rattle.bus.proofs.memory.Memory.hear.Goals as goal
 
-pub returns_in_Some : goal.returns_in_Some
+pub returns-in-Some : goal.returns-in-Some
 unfolding selected
-returns_in_Some g c =
+returns-in-Some g c =
     rw c.in-Some.is (c.keep.ensures (g.T.Table.meters c.args.table.now) c.only-count-only.ensures.has)
 
-pub returns_in_default : goal.returns_in_default
+pub returns-in-default : goal.returns-in-default
 unfolding hear
-returns_in_default g c = rw c.in-default.is
+returns-in-default g c = rw c.in-default.is

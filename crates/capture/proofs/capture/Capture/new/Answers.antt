@@ -6,15 +6,15 @@ use Rattle.capture.proofs.Exclusive.{no_refusal}
 use Rattle.capture.proofs.Making.{bus_means, bus_only, bus_recorded, bus_sound, meters_are, read_of}
 use Rattle.capture.proofs.capture.Capture.new.Goals as goal
 
-pub returns_in_err_check_size : goal.returns_in_err_check_size
-returns_in_err_check_size c =
+pub returns-in-err-check-size : goal.returns-in-err-check-size
+returns-in-err-check-size c =
     let p = err_from_is_err_and c.from-residual.result c.from-residual.ensures.1 in
     let size = c.in-err-check-size.ensures in
     let n = c.len.ensures ∙ c.args.bytes.ok.0 in
     rw (p.1, p.2) (record { too_long = λ _. (size.1, size.2); first_fault = λ l. absurd (omega (arith, size.0)); nothing = λ l. absurd (omega (arith, size.0)) })
 
-pub returns_in_err_index : goal.returns_in_err_index
-returns_in_err_index c =
+pub returns-in-err-index : goal.returns-in-err-index
+returns-in-err-index c =
     let bytes = vec_items c.args.bytes in
     let fault = c.in-err-index.field-0.0 in
     let r : Refusal bytes fault = subst (λ b. Refusal b fault) c.as-slice.ensures.value c.in-err-index.ensures in
@@ -22,13 +22,13 @@ returns_in_err_index c =
     let n = c.len.ensures ∙ c.args.bytes.ok.0 in
     rw (p.1, p.2) (record { too_long = λ l. absurd (omega (arith, c.in-ok-check-size.ensures)); first_fault = λ _. r; nothing = λ _ ms h. no_refusal bytes fault ms r h })
 
-pub invariant_of_recording : goal.invariant_of_recording
-invariant_of_recording c =
+pub invariant-of-recording : goal.invariant-of-recording
+invariant-of-recording c =
     let h = read_of (vec_items c.in-ok-index.index.rows) c.as-slice.ensures.value c.in-ok-index.ensures.0 in
     (∣ h.stocked ∣₁, tt)
 
-pub invariant_of_result : goal.invariant_of_result
-invariant_of_result c =
+pub invariant-of-result : goal.invariant-of-result
+invariant-of-result c =
     let bytes = vec_items c.args.bytes in
     let rows = vec_items c.in-ok-index.index.rows in
     let x = c.new-bus.result in

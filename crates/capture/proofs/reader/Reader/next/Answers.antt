@@ -7,11 +7,11 @@ use Rattle.capture.proofs.Carrying.{address_read}
 use Rattle.capture.proofs.Cuts.{end_within, part_is}
 use Rattle.capture.proofs.reader.Reader.next.Goals as goal
 
-pub slice_bounds_read_end : goal.slice_bounds_read_end
-slice_bounds_read_end c = omega (arith, end_within c.args.self.now.bytes.now c.args.self.now.at (omega arith))
+pub slice-bounds-read-end : goal.slice-bounds-read-end
+slice-bounds-read-end c = omega (arith, end_within c.args.self.now.bytes.now c.args.self.now.at (omega arith))
 
-pub returns_in_err_reply : goal.returns_in_err_reply
-returns_in_err_reply c =
+pub returns-in-err-reply : goal.returns-in-err-reply
+returns-in-err-reply c =
     let fault = c.in-err-reply.field-0.0 in
     let e = part_is c.args.self.now.bytes.now c.args.self.now.at c.new-guard.result.end.now c.new-guard.ensures.end in
     let f = c.in-err-reply.ensures in

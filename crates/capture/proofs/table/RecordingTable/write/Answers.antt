@@ -9,8 +9,8 @@ use Rattle.capture.proofs.Tabling.{Stands, no_meter, no_telegram, telegram_is, t
 use Rattle.capture.proofs.table.RecordingTable.write.Goals as goal
 
 -- no row
-pub returns_in_default : goal.returns_in_default
-returns_in_default c =
+pub returns-in-default : goal.returns-in-default
+returns-in-default c =
     let t = c.args.self.now in
     let past = subst (λ l. length l ≤ c.args.row) c.deref.ensures.value c.in-default.ensures.lookup.3 in
     let e : telegram_at (meters_of (vec_items t.bytes) (vec_items t.rows)) c.args.row c.args.place ≡ [] =
@@ -18,8 +18,8 @@ returns_in_default c =
     record { buffer = c.fill.ensures.buffer ∙ ap filled (sym e); count = c.fill.ensures.count ∙ ap length (sym e) }
 
 -- no telegram
-pub returns_then_place_row : goal.returns_then_place_row
-returns_then_place_row c =
+pub returns-then-place-row : goal.returns-then-place-row
+returns-then-place-row c =
     let t = c.args.self.now in
     let r = c.in-Some.row.now in
     let h = subst (λ l. Stands l c.args.row r) c.deref.ensures.value c.in-Some.ensures.lookup.3 in
@@ -27,8 +27,8 @@ returns_then_place_row c =
     let w = c.fill-then-place-row.ensures in
     record { buffer = w.buffer ∙ ap filled (sym e); count = w.count ∙ ap length (sym e) }
 
-pub telegram_at_requires : goal.telegram_at_requires
-telegram_at_requires c =
+pub telegram-at-requires : goal.telegram-at-requires
+telegram-at-requires c =
     let t = c.args.self.now in
     let r = c.in-Some.row.now in
     let bytes = vec_items t.bytes in

@@ -11,14 +11,14 @@ front_part w n e = let k : n - 0 ≡ n = omega arith in ap (λ m. take m w) k �
 back_part : (w : List ℕ) (n : ℕ) → drop (n + 1) w ≡ after 0x2b w → take (length w - (n + 1)) (drop (n + 1) w) ≡ after 0x2b w
 back_part w n e = take_rest w (n + 1) ∙ e
 
-pub returns_then_size_word : goal.returns_then_size_word
-returns_then_size_word c =
+pub returns-then-size-word : goal.returns-then-size-word
+returns-then-size-word c =
     let w = c.args.word.now in
     let n = c.size-before-size.result in
     no_plus w (take n w) (drop (n + 1) w) c.size-before-size.ensures.front c.size-before-size.ensures.back (omega (arith, length-drop (n + 1) w))
 
-pub returns_in_default_decimal : goal.returns_in_default_decimal
-returns_in_default_decimal c =
+pub returns-in-default-decimal : goal.returns-in-default-decimal
+returns-in-default-decimal c =
     let w = c.args.word.now in
     let n = c.size-before-size.result in
     bad_length w _ _ (front_part w n c.size-before-size.ensures.front) (back_part w n c.size-before-size.ensures.back) c.in-default-decimal.ensures

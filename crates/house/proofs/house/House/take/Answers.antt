@@ -5,16 +5,16 @@ use Rattle.house.specs.Lines.{asked, listed}
 use Rattle.house.proofs.Adding.{call_taken, meter_taken}
 use Rattle.house.proofs.house.House.take.Goals as goal
 
-pub returns_in_Meter : goal.returns_in_Meter
-returns_in_Meter c =
+pub returns-in-Meter : goal.returns-in-Meter
+returns-in-Meter c =
     let h = c.args.self.now in
     let p = parts_of h in
     let row = c.in-Meter.row in
     let meters = ap (map listed) c.push-reserved.ensures.items ∙ map_push listed (vec_items h.rows) row in
     meter_taken p (parts_of (record { rows = c.push-reserved.new.self; area = h.area; codes = h.codes; limits = h.limits; places = h.places; calls = h.calls })) c.args.line row c.in-Meter.is (ap (λ ms. record { meters = ms; area_bytes = p.area_bytes; fault_codes = p.fault_codes; limits = p.limits; places_given = p.places_given; calls = p.calls }) meters)
 
-pub returns_in_Call : goal.returns_in_Call
-returns_in_Call c =
+pub returns-in-Call : goal.returns-in-Call
+returns-in-Call c =
     let h = c.args.self.now in
     let p = parts_of h in
     let call = c.in-Call.call in

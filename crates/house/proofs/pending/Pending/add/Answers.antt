@@ -5,8 +5,8 @@ use Rattle.house.specs.Lines.{statement}
 use Rattle.house.proofs.Adding.{line_refused, line_taken}
 use Rattle.house.proofs.pending.Pending.add.Goals as goal
 
-pub returns_then_take : goal.returns_then_take
-returns_then_take c =
+pub returns-then-take : goal.returns-then-take
+returns-then-take c =
     let says = c.read-line.ensures.says ∙ ap (λ l. statement (content l)) c.as-slice.ensures.value in
     line_taken (parts_of c.args.self.house) (parts_of c.take.new.self) (vec_items c.args.self.line) c.read-line.result c.take.result says c.take.ensures c.if-take.true
 

@@ -4,18 +4,18 @@ use Rattle.line.proofs.Exchanging.{stands}
 use Rattle.line.proofs.Retrying.{retried_buffer, tries_answered, tries_again, tries_failed}
 use Rattle.line.proofs.retry.RetryLine.exchange.Goals as goal
 
-pub is_answered_requires : goal.is_answered_requires
-is_answered_requires g c = c.exchange-count.ensures.exchanged.within
+pub is-answered-requires : goal.is-answered-requires
+is-answered-requires g c = c.exchange-count.ensures.exchanged.within
 
-pub loop_i_init : goal.loop_i_init
-loop_i_init g c =
+pub loop-i-init : goal.loop-i-init
+loop-i-init g c =
     let s = g.L.Line.means c.args.self.now.below in
     let k : ℕ = c.args.self.now.limit + 1 in
     let whole : k - 0 ≡ k = omega arith in
     (λ r u h. subst (λ m. Tries c.args.request.now m true s r u) whole h, refl, refl)
 
-pub returns_then_is_answered : goal.returns_then_is_answered
-returns_then_is_answered g c =
+pub returns-then-is-answered : goal.returns-then-is-answered
+returns-then-is-answered g c =
     let inv = c.loop-i.invariant in
     let x = c.exchange-count.ensures in
     let k : ℕ = c.args.self.now.limit + 1 in
@@ -23,8 +23,8 @@ returns_then_is_answered g c =
     let all = retried_buffer k (omega arith) (g.L.Line.sound c.args.self.now.below) x.exchanged.within x.exchanged.then_zeros tries in
     record { exchanged = rw inv.1 all; layers = ap₂ (λ t n. t * (n + 1)) (x.layers ∙ inv.2) inv.1; retried = tries; limit = inv.1 }
 
-pub loop_i_preserved : goal.loop_i_preserved
-loop_i_preserved g c =
+pub loop-i-preserved : goal.loop-i-preserved
+loop-i-preserved g c =
     let inv = c.loop-i.invariant in
     let x = c.exchange-count.ensures in
     let k : ℕ = c.args.self.now.limit + 1 in

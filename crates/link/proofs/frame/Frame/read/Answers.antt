@@ -5,37 +5,37 @@ use Rattle.link.specs.Frames.{frame_refusal}
 use Rattle.link.proofs.Judging.{judged}
 use Rattle.link.proofs.frame.Frame.read.Goals as goal
 
-pub returns_then_bytes_eq0 : goal.returns_then_bytes_eq0
+pub returns-then-bytes-eq0 : goal.returns-then-bytes-eq0
 unfolding frame_refusal
-returns_then_bytes_eq0 c =
+returns-then-bytes-eq0 c =
     let told : Some (frame_report Empty) ≡ frame_refusal c.args.bytes.now = search rules in
     let j = judged c.args.bytes.now (Err Empty) told tt in
     record { fault = told; order = j.order; frame = j.frame; reads = j.reads }
 
-pub returns_in_229 : goal.returns_in_229
+pub returns-in-229 : goal.returns-in-229
 unfolding frame_refusal
-returns_in_229 c =
+returns-in-229 c =
     let told : frame_fault c.read-ack.result ≡ frame_refusal c.args.bytes.now = search rules in
     let j = judged c.args.bytes.now c.read-ack.result told c.read-ack.ensures.bytes in
     record { fault = told; order = j.order; frame = j.frame; reads = j.reads }
 
-pub returns_in_16 : goal.returns_in_16
+pub returns-in-16 : goal.returns-in-16
 unfolding frame_refusal
-returns_in_16 c =
+returns-in-16 c =
     let told : frame_fault c.read-short.result ≡ frame_refusal c.args.bytes.now = search rules in
     let j = judged c.args.bytes.now c.read-short.result told c.read-short.ensures.bytes in
     record { fault = told; order = j.order; frame = j.frame; reads = j.reads }
 
-pub returns_in_104 : goal.returns_in_104
+pub returns-in-104 : goal.returns-in-104
 unfolding frame_refusal
-returns_in_104 c =
+returns-in-104 c =
     let told : frame_fault c.read-long.result ≡ frame_refusal c.args.bytes.now = search rules in
     let j = judged c.args.bytes.now c.read-long.result told c.read-long.ensures.bytes in
     record { fault = told; order = j.order; frame = j.frame; reads = j.reads }
 
-pub returns_in_default : goal.returns_in_default
+pub returns-in-default : goal.returns-in-default
 unfolding frame_refusal
-returns_in_default c =
+returns-in-default c =
     let told : Some (frame_report Start) ≡ frame_refusal c.args.bytes.now = search rules in
     let j = judged c.args.bytes.now (Err Start) told tt in
     record { fault = told; order = j.order; frame = j.frame; reads = j.reads }

@@ -3,8 +3,8 @@ use Rattle.master.proofs.Finding.{search_clears, search_finds}
 use Rattle.master.proofs.Walking.{walked_released}
 use Rattle.master.proofs.master.Idle.search.Goals as goal
 
-pub returns_then_end : goal.returns_then_end
-returns_then_end g c =
+pub returns-then-end : goal.returns-then-end
+returns-then-end g c =
     let sent = walked_released _ _ _ _ _ _ _ _ c.walk-end.ensures.walked c.send-release.ensures.sent c.if-end.true in
     record {
       searched = sent;
@@ -16,8 +16,8 @@ returns_then_end g c =
       layers = c.send-release.ensures.layers ∙ c.walk-end.ensures.layers;
     }
 
-pub returns_else_end : goal.returns_else_end
-returns_else_end g c =
+pub returns-else-end : goal.returns-else-end
+returns-else-end g c =
     let sent = walked_released _ _ _ _ _ _ _ _ c.walk-end.ensures.walked c.send-release.ensures.sent c.if-end.false in
     record {
       searched = sent;

@@ -4,8 +4,8 @@ use Rattle.master.proofs.Linking.{fetch_continues}
 use Rattle.master.proofs.Probing.{read_is}
 use Rattle.master.proofs.master.Picked.fetch.Goals as goal
 
-pub returns_then_not_self : goal.returns_then_not_self
-returns_then_not_self g c =
+pub returns-then-not-self : goal.returns-then-not-self
+returns-then-not-self g c =
     let f = fetch_unanswered _ _ _ _ c.if-not-self.true c.new-buffer.ensures in
     record {
       fetched = f;
@@ -14,8 +14,8 @@ returns_then_not_self g c =
       layers = refl;
     }
 
-pub returns_then_is_ok : goal.returns_then_is_ok
-returns_then_is_ok g c =
+pub returns-then-is-ok : goal.returns-then-is-ok
+returns-then-is-ok g c =
     let f = fetch_accepted _ _ _ _ _ _ c.if-not-self.false c.send-count.ensures.sent.exchanged c.send-count.array_long (read_is c.send-count.result c.send-count.new.reply c.read.result c.read.ensures.fault ∙ sym c.if-is-ok.ensures.value) in
     record {
       fetched = f;
@@ -24,8 +24,8 @@ returns_then_is_ok g c =
       layers = c.send-count.ensures.layers;
     }
 
-pub returns_then_count_eq0 : goal.returns_then_count_eq0
-returns_then_count_eq0 g c =
+pub returns-then-count-eq0 : goal.returns-then-count-eq0
+returns-then-count-eq0 g c =
     let f = fetch_silent _ _ _ _ _ _ c.if-not-self.false c.send-count.ensures.sent.exchanged c.send-count.array_long _ c.new-buffer-2.ensures c.if-count-eq0.true in
     record {
       fetched = f;
@@ -34,8 +34,8 @@ returns_then_count_eq0 g c =
       layers = c.send-count.ensures.layers;
     }
 
-pub returns_else_count_eq0 : goal.returns_else_count_eq0
-returns_else_count_eq0 g c =
+pub returns-else-count-eq0 : goal.returns-else-count-eq0
+returns-else-count-eq0 g c =
     let f = fetch_garbled _ _ _ _ _ _ c.if-not-self.false c.send-count.ensures.sent.exchanged c.send-count.array_long _ c.new-buffer-2.ensures c.if-count-eq0.false (read_is c.send-count.result c.send-count.new.reply c.read.result c.read.ensures.fault ∙ sym c.if-is-ok.ensures.value) in
     record {
       fetched = f;

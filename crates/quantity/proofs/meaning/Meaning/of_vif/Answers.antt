@@ -4,19 +4,19 @@ use Rattle.quantity.proofs.Rows.{by_row, row_among}
 use Rattle.quantity.proofs.Standing.{counted, few_codes, moderate_rows, table_stands}
 use Rattle.quantity.proofs.meaning.Meaning.of_vif.Goals as goal
 
-pub returns_then_vif_eq_FIRST_EXTENSION : goal.returns_then_vif_eq_FIRST_EXTENSION
+pub returns-then-vif-eq-FIRST-EXTENSION : goal.returns-then-vif-eq-FIRST-EXTENSION
 unfolding vif_meaning
-returns_then_vif_eq_FIRST_EXTENSION c = record { value = search rules; table = table_stands }
+returns-then-vif-eq-FIRST-EXTENSION c = record { value = search rules; table = table_stands }
 
-pub returns_in_err_row : goal.returns_in_err_row
-returns_in_err_row c =
+pub returns-in-err-row : goal.returns-in-err-row
+returns-in-err-row c =
     record {
       value = c.from-residual.ensures ∙ by_row c.args.vif None c.if-vif-eq-SECOND-EXTENSION.false c.if-vif-eq-FIRST-EXTENSION.false c.in-err-row.ensures;
       table = table_stands;
     }
 
-pub meaning_in_requires : goal.meaning_in_requires
-meaning_in_requires c =
+pub meaning-in-requires : goal.meaning-in-requires
+meaning-in-requires c =
     let h = row_among Moderate (c.args.vif % 128) table c.in-ok-row.row moderate_rows (sym c.in-ok-row.ensures) in
     let code = c.args.vif % 128 in
     let e = sym c.in-ok-row.ensures in

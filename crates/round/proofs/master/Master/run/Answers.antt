@@ -9,11 +9,11 @@ use Rattle.round.proofs.Promising.{run_goes_on, run_lists}
 use Rattle.round.proofs.Tracing.{run_more, run_start}
 use Rattle.round.proofs.master.Master.run.Goals as goal
 
-pub loop_i_init : goal.loop_i_init
-loop_i_init g c = (omega arith, run_start g.L.Line.means _ c.args.self _ _ _ refl refl refl, refl, refl, refl, refl)
+pub loop-i-init : goal.loop-i-init
+loop-i-init g c = (omega arith, run_start g.L.Line.means _ c.args.self _ _ _ refl refl refl, refl, refl, refl, refl)
 
-pub loop_i_preserved : goal.loop_i_preserved
-loop_i_preserved g c =
+pub loop-i-preserved : goal.loop-i-preserved
+loop-i-preserved g c =
     let means = g.L.Line.means in
     let was = c.loop-i.invariant in
     let f = c.step-after.ensures in

@@ -3,8 +3,8 @@ use Rattle.round.specs.declared.master.Master.TheVariants as master
 use Rattle.round.proofs.Stepping.{fetch_lacks, goes_as, house_as, layers_as, pick_lacks, search_lacks}
 use Rattle.round.proofs.master.Master.step.Goals as goal
 
-pub returns_in_Idle_Pick : goal.returns_in_Idle_Pick
-returns_in_Idle_Pick g c =
+pub returns-in-Idle-Pick : goal.returns-in-Idle-Pick
+returns-in-Idle-Pick g c =
     let f = c.pick-after.ensures in
     let after = c.pick-after.result.0 in
     record {
@@ -15,8 +15,8 @@ returns_in_Idle_Pick g c =
       layers = layers_as g.L.Line.means _ _ c.in-Idle-Pick.is-0 after g.L.Line.tries f.layers;
     }
 
-pub returns_in_Idle_Release : goal.returns_in_Idle_Release
-returns_in_Idle_Release g c =
+pub returns-in-Idle-Release : goal.returns-in-Idle-Release
+returns-in-Idle-Release g c =
     let f = c.release-idle-after.ensures in
     let after = c.release-idle-after.result.0 in
     record {
@@ -27,8 +27,8 @@ returns_in_Idle_Release g c =
       layers = layers_as g.L.Line.means _ _ c.in-Idle-Release.is-0 after g.L.Line.tries f.layers;
     }
 
-pub returns_in_Picked_Fetch : goal.returns_in_Picked_Fetch
-returns_in_Picked_Fetch g c =
+pub returns-in-Picked-Fetch : goal.returns-in-Picked-Fetch
+returns-in-Picked-Fetch g c =
     let f = c.fetch-after.ensures in
     let after = c.fetch-after.result.0 in
     record {
@@ -39,8 +39,8 @@ returns_in_Picked_Fetch g c =
       layers = layers_as g.L.Line.means _ _ c.in-Picked-Fetch.is-0 after g.L.Line.tries f.layers;
     }
 
-pub returns_in_Picked_Release : goal.returns_in_Picked_Release
-returns_in_Picked_Release g c =
+pub returns-in-Picked-Release : goal.returns-in-Picked-Release
+returns-in-Picked-Release g c =
     let f = c.release-picked-after.ensures in
     let after = c.release-picked-after.result.0 in
     record {
@@ -51,8 +51,8 @@ returns_in_Picked_Release g c =
       layers = layers_as g.L.Line.means _ _ c.in-Picked-Release.is-0 after g.L.Line.tries f.layers;
     }
 
-pub returns_in_Idle_Fetch : goal.returns_in_Idle_Fetch
-returns_in_Idle_Fetch g c =
+pub returns-in-Idle-Fetch : goal.returns-in-Idle-Fetch
+returns-in-Idle-Fetch g c =
     let after = master.Idle c.in-Idle-Fetch.idle in
     record {
       goes = goes_as g.L.Line.means _ _ c.in-Idle-Fetch.is-0 after _ _ _ _ _ _ c.in-Idle-Fetch.is-1 (fetch_lacks g.L.Line.means _ _ _);
@@ -62,8 +62,8 @@ returns_in_Idle_Fetch g c =
       layers = layers_as g.L.Line.means _ _ c.in-Idle-Fetch.is-0 after g.L.Line.tries refl;
     }
 
-pub returns_in_Picked_Search : goal.returns_in_Picked_Search
-returns_in_Picked_Search g c =
+pub returns-in-Picked-Search : goal.returns-in-Picked-Search
+returns-in-Picked-Search g c =
     let after = master.Picked c.in-Picked-Search.picked in
     record {
       goes = goes_as g.L.Line.means _ _ c.in-Picked-Search.is-0 after _ _ _ _ _ _ c.in-Picked-Search.is-1 (search_lacks g.L.Line.means _ _ _);
@@ -73,8 +73,8 @@ returns_in_Picked_Search g c =
       layers = layers_as g.L.Line.means _ _ c.in-Picked-Search.is-0 after g.L.Line.tries refl;
     }
 
-pub returns_in_Picked_Pick : goal.returns_in_Picked_Pick
-returns_in_Picked_Pick g c =
+pub returns-in-Picked-Pick : goal.returns-in-Picked-Pick
+returns-in-Picked-Pick g c =
     let after = master.Picked c.in-Picked-Pick.picked in
     record {
       goes = goes_as g.L.Line.means _ _ c.in-Picked-Pick.is-0 after _ _ _ _ _ _ c.in-Picked-Pick.is-1 (pick_lacks g.L.Line.means _ _ _ _);

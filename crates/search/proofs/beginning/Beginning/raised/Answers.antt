@@ -3,8 +3,8 @@ use Rattle.search.proofs.Raising.{back_nine, raise_at}
 use Rattle.search.proofs.beginning.Beginning.raised.Goals as goal
 use Rattle.search.proofs.beginning.Beginning.raised.Goals.{then-loop-len-test+else-self-len-eq9, else-loop-len-test}
 
-pub loop_len_preserved : goal.loop_len_preserved
-loop_len_preserved c =
+pub loop-len-preserved : goal.loop-len-preserved
+loop-len-preserved c =
     (omega arith, back_nine c.args.self.now.digits c.loop-len.len c.loop-len-test.true (omega arith) c.if-self-len-eq9.true ∙ c.loop-len.invariant.1)
 
 pub returns : goal.returns

@@ -3,8 +3,8 @@ use Rattle.link.specs.Frames.{parts}
 use Rattle.telegram.proofs.Replying.{judged, judged_frame}
 use Rattle.telegram.proofs.reply.Reply.read.Goals as goal
 
-pub returns_in_err_frame : goal.returns_in_err_frame
-returns_in_err_frame c =
+pub returns-in-err-frame : goal.returns-in-err-frame
+returns-in-err-frame c =
     let p = err_from_is_err_and c.from-residual.result c.from-residual.ensures.1 in
     let j = judged_frame c.args.bytes.now c.from-residual.result p.0 c.in-err-frame.field-0.0 p.1 p.2 c.in-err-frame.ensures.fault in
     record { fault = j.told; order = j.order; rises = j.rises; reads = j.reads }
