@@ -1,7 +1,7 @@
 // What meters remember from one request to the next.
 ghost use Rattle.std.specs.Prelude.{◌≡◌, List, Some};
 ghost use Rattle.line.specs.Meters.{Meter};
-ghost use Rattle.line.specs.Buses.{due as due-after, fitting, hear as hearing, selected};
+ghost use Rattle.line.specs.Buses.{due as due_after, fitting, hear as hearing, selected};
 ghost use Rattle.bus.specs.Memories.{OnlyHas, Positive, remembering, turn_kept};
 ghost use Rattle.bus.specs.Replies.{due_from};
 
@@ -78,7 +78,7 @@ impl Memory {
 
     // The reply that is due once a request was heard.
     pub(crate) fn due<T: Table>(&self, table: &T, heard: &Option<Request>) -> DueReply
-        ensures { due_from (meters table.now) result ≡ due-after heard.now (remembering (meters table.now) self.now) }
+        ensures { due_from (meters table.now) result ≡ due_after heard.now (remembering (meters table.now) self.now) }
     {
         let Some(request) = heard else {
             return DueReply::Silence;

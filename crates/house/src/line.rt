@@ -2,7 +2,7 @@
 ghost use Rattle.std.specs.Prelude.{◌≡◌, ◌≤◌, length, IfSome, vec_len, vec_capacity};
 ghost use Rattle.input.specs.Lines.{content};
 ghost use Rattle.house.specs.Lines.{added, area_in, asked, by_keyword, call_in, fault_in, meter_in, number_in, pick_in, retry, said, statement, with_number};
-ghost use Rattle.house.specs.Lines.{places as places-statement};
+ghost use Rattle.house.specs.Lines.{places as places_statement};
 ghost use Rattle.house.specs.Words.{words as words_of};
 
 use crate::address::next_address;
@@ -99,7 +99,7 @@ fn read_retry(text: &[u8]) -> HouseLine
 }
 
 fn read_places(text: &[u8]) -> HouseLine
-    ensures says { said result ≡ with_number places-statement (number_in 250 (words_of text.now)) }
+    ensures says { said result ≡ with_number places_statement (number_in 250 (words_of text.now)) }
     ensures few { added result ≤ length text.now }
 {
     match read_number(text, MOST_PLACES) {

@@ -1,7 +1,7 @@
 // The numbers among the data, lowest byte first.
 ghost use Rattle.std.specs.Prelude.{◌≡◌, ◌+◌, ◌*◌, ◌^◌, ◌<◌, ◌≤◌, length, IfOk, if◌then◌else◌, slice_index};
 ghost use Rattle.link.specs.Checks.{first_fault};
-ghost use Rattle.telegram.specs.Digits.{decimal as both-decimal};
+ghost use Rattle.telegram.specs.Digits.{decimal as both_decimal};
 ghost use Rattle.record.specs.Faults.{record_fault};
 ghost use Rattle.record.specs.Numbers.{unsigned_of, integer_of, magnitude, first_bad, decimal_of, digit_checks, digits_value};
 
@@ -46,7 +46,7 @@ fn digits_at(bytes: &[u8], i: usize) -> u8
 
 // Both digits of a byte are at most 9.
 fn is_decimal(byte: u8) -> bool
-    ensures { result ≡ both-decimal byte }
+    ensures { result ≡ both_decimal byte }
 {
     (byte % 16 <= 9) & (byte / 16 <= 9)
 }

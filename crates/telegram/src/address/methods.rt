@@ -2,18 +2,18 @@
 ghost use Rattle.std.specs.Prelude.{◌≡◌, ◌≤◌, length, take, IfOk, Decides};
 ghost use Rattle.link.specs.Checks.{FailsFirst, first_fault};
 ghost use Rattle.telegram.specs.Addresses.{address_bytes};
-ghost use Rattle.telegram.specs.Digits.{decimal as both-decimal, digit_checks};
+ghost use Rattle.telegram.specs.Digits.{decimal as both_decimal, digit_checks};
 ghost use Rattle.telegram.specs.Faults.{reply_fault};
 ghost use Rattle.std.specs.Cmp.Rules.{comparing};
-ghost use Rattle.std.proofs.Common.{rules, arith};
-ghost use Rattle.std.specs.Cmp as Keys;
+ghost use Rattle.std.specs.Str.{bytes_eq};
+ghost use Rattle.std.proofs.Common.{rules};
 
 use super::Address;
 use crate::fault::ReplyFault;
 
 // Both digits of a byte are at most 9.
 fn decimal(byte: u8) -> bool
-    ensures { result ≡ both-decimal byte }
+    ensures { result ≡ both_decimal byte }
 {
     byte % 16 <= 9 && byte / 16 <= 9
 }
@@ -85,15 +85,18 @@ impl Address {
 }
 
 impl PartialEq for Address {
-    ghost equals = { λ a b r. Decides r (address_bytes a ≡ address_bytes b) };
+    ghost eq = { λ a b. bytes_eq (address_bytes a) (address_bytes b) };
 
-    ghost laws = { Keys.partial_equiv_from_equiv (first_of (Prim.search (comparing, rules), Prim.grind (arith, Self.row.coded.inj))) };
+    ghost laws = { Prim.search (comparing, rules) };
 
-    fn eq(&self, other: &Address) -> bool {
+    fn eq(&self, other: &Address) -> bool
+        ensures value { result ≡ bytes_eq (address_bytes self.now) (address_bytes other.now) }
+        ensures same { Decides result (address_bytes self.now ≡ address_bytes other.now) }
+    {
         self.bytes() == other.bytes()
     }
 }
 
 impl Eq for Address {
-    ghost laws = { first_of (Prim.search (comparing, rules), Prim.grind (arith, Self.row.coded.inj)) };
+    ghost laws = { Prim.search (comparing, rules) };
 }

@@ -5,7 +5,7 @@ use Rattle.bus.specs.declared.choice.Choice.{Choice}
 use Rattle.bus.specs.Choices.{Tells}
 use Rattle.bus.proofs.Choosing.{at_row, tells_fit, tells_unfit, tells_all}
 use Rattle.bus.proofs.choice.choose.Goals as goal
-use Rattle.bus.proofs.choice.choose.Goals.{then-is-fit, else-is-fit}
+use Rattle.bus.proofs.choice.choose.Goals.{then-is_fit, else-is_fit}
 
 pub loop-row-preserved : goal.loop-row-preserved
 loop-row-preserved g c =
@@ -14,9 +14,9 @@ loop-row-preserved g c =
     let i = c.loop-row.row in
     let P : Choice → Type 0 = λ x. Tells ms (filter p (take (i + 1) ms)) x in
     let low : i < length ms = omega arith in
-    elim c.if-is-fit.branch [
-      | then-is-fit w ↦ subst P (sym (w.choice-is ∙ w.and-choice.ensures)) (tells_fit p ms i low c.loop-row.choice (at_row p ms i low true w.if-is-fit.ensures) c.loop-row.invariant)
-      | else-is-fit w ↦ subst P (sym w.choice-is) (tells_unfit p ms i low c.loop-row.choice (at_row p ms i low false w.if-is-fit.ensures) c.loop-row.invariant)
+    elim c.if-is_fit.branch [
+      | then-is_fit w ↦ subst P (sym (w.choice-is ∙ w.and-choice.ensures)) (tells_fit p ms i low c.loop-row.choice (at_row p ms i low true w.if-is_fit.ensures) c.loop-row.invariant)
+      | else-is_fit w ↦ subst P (sym w.choice-is) (tells_unfit p ms i low c.loop-row.choice (at_row p ms i low false w.if-is_fit.ensures) c.loop-row.invariant)
     ]
 
 pub returns : goal.returns

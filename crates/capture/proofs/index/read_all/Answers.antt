@@ -28,27 +28,27 @@ returns-in-Err c =
     let rows = vec_items c.loop-reader.rows in
     let B : List ℕ → Cause → Type 0 = λ b x. Blocked (meters_of b rows) (telegram_from b at) x in
     let b = subst (λ x. B x c.in-Err.fault.cause) c.loop-reader.invariant.0 c.in-Err.ensures.taken.1 in
-    refused bytes at (meters_of bytes rows) c.in-telegram.result _ c.loop-reader.invariant.6 (omega arith) c.in-telegram.ensures.telegram (omega arith)
-    (subst (B bytes) (sym c.in-telegram.ensures.cause) b)
+    refused bytes at (meters_of bytes rows) c.in_telegram.result _ c.loop-reader.invariant.6 (omega arith) c.in_telegram.ensures.telegram (omega arith)
+    (subst (B bytes) (sym c.in_telegram.ensures.cause) b)
 
 -- what one turn does, in terms of the bytes that were passed
-follows : (c : goal.In-default) → Followed c.args.bytes.now c.loop-reader.reader.at (meters_of c.args.bytes.now (vec_items c.loop-reader.rows)) c.read-telegram.new.reader.at (meters_of c.args.bytes.now (vec_items c.read-telegram.new.rows))
+follows : (c : goal.In_default) → Followed c.args.bytes.now c.loop-reader.reader.at (meters_of c.args.bytes.now (vec_items c.loop-reader.rows)) c.read_telegram.new.reader.at (meters_of c.args.bytes.now (vec_items c.read_telegram.new.rows))
 follows c =
-    let F : List ℕ → Type 0 = λ b. Followed b c.loop-reader.reader.at (meters_of b (vec_items c.loop-reader.rows)) c.read-telegram.new.reader.at (meters_of b (vec_items c.read-telegram.new.rows)) in
-    subst F c.loop-reader.invariant.0 c.in-default.ensures.taken
+    let F : List ℕ → Type 0 = λ b. Followed b c.loop-reader.reader.at (meters_of b (vec_items c.loop-reader.rows)) c.read_telegram.new.reader.at (meters_of b (vec_items c.read_telegram.new.rows)) in
+    subst F c.loop-reader.invariant.0 c.in_default.ensures.taken
 
 pub loop-reader-smaller : goal.loop-reader-smaller
 loop-reader-smaller c =
-    omega (arith, followed_moves c.args.bytes.now c.loop-reader.reader.at _ c.read-telegram.new.reader.at _ (follows c) (omega arith))
+    omega (arith, followed_moves c.args.bytes.now c.loop-reader.reader.at _ c.read_telegram.new.reader.at _ (follows c) (omega arith))
 
 pub loop-reader-preserved : goal.loop-reader-preserved
 loop-reader-preserved c =
     let bytes = c.args.bytes.now in
     let at = c.loop-reader.reader.at in
-    let next = c.read-telegram.new.reader.at in
+    let next = c.read_telegram.new.reader.at in
     let ms = meters_of bytes (vec_items c.loop-reader.rows) in
-    let ms' = meters_of bytes (vec_items c.read-telegram.new.rows) in
-    let r = c.in-default.ensures in
+    let ms' = meters_of bytes (vec_items c.read_telegram.new.rows) in
+    let r = c.in_default.ensures in
     let e = c.loop-reader.invariant.0 in
     let f = follows c in (
       r.bytes ∙ e,

@@ -9,7 +9,7 @@ returns c =
     let bytes = c.args.reader.now.bytes.now in
     let at = c.args.reader.now.at in
     let ms = meters_of bytes (vec_items c.args.rows.now) in
-    let next = c.in-ok-address.ensures in
+    let next = c.in_ok-address.ensures in
     record {
       bytes = next.bytes;
       end = next.end;

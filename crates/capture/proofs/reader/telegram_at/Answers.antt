@@ -3,14 +3,14 @@ use Rattle.std.proofs.lemmas.List.{length-take}
 use Rattle.capture.proofs.Cuts.{end_within, part_is}
 use Rattle.capture.proofs.reader.telegram_at.Goals as goal
 
-pub slice-bounds-result-end : goal.slice-bounds-result-end
-slice-bounds-result-end c = omega (arith, c.telegram-end.ensures.end, end_within c.args.bytes.now c.args.at c.requires)
+pub slice_bounds-result-end : goal.slice_bounds-result-end
+slice_bounds-result-end c = omega (arith, c.telegram_end.ensures.end, end_within c.args.bytes.now c.args.at c.requires)
 
 pub returns : goal.returns
 returns c =
     let bytes = c.args.bytes.now in
-    let end = c.telegram-end.result in
+    let end = c.telegram_end.result in
     record {
-      bytes = part_is bytes c.args.at end c.telegram-end.ensures.end;
-      few = omega (arith, c.telegram-end.ensures.few, length-take (end - c.args.at) (drop c.args.at bytes));
+      bytes = part_is bytes c.args.at end c.telegram_end.ensures.end;
+      few = omega (arith, c.telegram_end.ensures.few, length-take (end - c.args.at) (drop c.args.at bytes));
     }

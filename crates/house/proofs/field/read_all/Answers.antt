@@ -8,16 +8,16 @@ loop-word-init g c =
     let v = c.args.items in
     read_none g.F.Field.fits g.F.Field.value c.args.text.now (vec_items v) (vec_len v) (vec_capacity v) (omega (arith, v.ok.0, c.requires.empty)) c.requires.empty c.requires.room
 
-pub returns-then-is-empty : goal.returns-then-is-empty
-returns-then-is-empty g c =
+pub returns-then-is_empty : goal.returns-then-is_empty
+returns-then-is_empty g c =
     let l = c.loop-word in
-    let e = read_end g.F.Field.fits g.F.Field.value c.args.text.now l.left.now (vec_items l.items) (vec_len l.items) (vec_capacity l.items) l.invariant c.next-word.result.0.now c.next-word.ensures.word (omega (arith, eqb-true _ 0 (sym c.if-is-empty.ensures))) in
+    let e = read_end g.F.Field.fits g.F.Field.value c.args.text.now l.left.now (vec_items l.items) (vec_len l.items) (vec_capacity l.items) l.invariant c.next_word.result.0.now c.next_word.ensures.word (omega (arith, eqb-true _ 0 (sym c.if-is_empty.ensures))) in
     record { values = e; few = omega (arith, l.invariant.few) }
 
 pub loop-word-preserved : goal.loop-word-preserved
 loop-word-preserved g c =
     let l = c.loop-word in
-    let w = c.next-word.result.0.now in
-    let v = c.push-reserved.new.self in
+    let w = c.next_word.result.0.now in
+    let v = c.push_reserved.new.self in
     let s = some_cond (g.F.Field.fits w) c.in-Some.item (g.F.Field.value w) c.in-Some.ensures in
-    read_more g.F.Field.fits g.F.Field.value c.args.text.now l.left.now (vec_items l.items) (vec_len l.items) (vec_capacity l.items) l.invariant w c.next-word.ensures.word c.next-word.result.1.now c.next-word.ensures.rest (omega (arith, eqb-false (length w) 0 (sym c.if-is-empty.ensures))) c.in-Some.item (vec_items v) (vec_len v) (vec_capacity v) s.0 s.1 c.push-reserved.ensures.items c.push-reserved.ensures.len c.push-reserved.ensures.capacity c.next-word.ensures.shorter
+    read_more g.F.Field.fits g.F.Field.value c.args.text.now l.left.now (vec_items l.items) (vec_len l.items) (vec_capacity l.items) l.invariant w c.next_word.ensures.word c.next_word.result.1.now c.next_word.ensures.rest (omega (arith, eqb-false (length w) 0 (sym c.if-is_empty.ensures))) c.in-Some.item (vec_items v) (vec_len v) (vec_capacity v) s.0 s.1 c.push_reserved.ensures.items c.push_reserved.ensures.len c.push_reserved.ensures.capacity c.next_word.ensures.shorter

@@ -4,10 +4,10 @@ use Rattle.house.specs.Words.{words}
 use Rattle.house.proofs.Saying.{bare_call, call_with_word}
 use Rattle.house.proofs.line.read_call.Goals as goal
 
-pub returns-then-is-empty : goal.returns-then-is-empty
-returns-then-is-empty c =
-    record { says = bare_call (asked c.args.call) (words c.args.text.now) c.next-word.result.0.now c.next-word.ensures.word c.if-is-empty.ensures; few = omega arith }
+pub returns-then-is_empty : goal.returns-then-is_empty
+returns-then-is_empty c =
+    record { says = bare_call (asked c.args.call) (words c.args.text.now) c.next_word.result.0.now c.next_word.ensures.word c.if-is_empty.ensures; few = omega arith }
 
-pub returns-else-is-empty : goal.returns-else-is-empty
-returns-else-is-empty c =
-    record { says = call_with_word (asked c.args.call) (words c.args.text.now) c.next-word.result.0.now c.next-word.ensures.word c.if-is-empty.ensures; few = omega arith }
+pub returns-else-is_empty : goal.returns-else-is_empty
+returns-else-is_empty c =
+    record { says = call_with_word (asked c.args.call) (words c.args.text.now) c.next_word.result.0.now c.next_word.ensures.word c.if-is_empty.ensures; few = omega arith }

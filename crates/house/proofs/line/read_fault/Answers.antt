@@ -4,14 +4,14 @@ use Rattle.house.specs.Words.{words}
 use Rattle.house.proofs.Saying.{few_codes, no_codes, some_codes}
 use Rattle.house.proofs.line.read_fault.Goals as goal
 
-pub returns-in-default : goal.returns-in-default
-returns-in-default c = record { says = no_codes (words c.args.text.now) c.in-default.ensures.values; few = omega arith }
+pub returns-in_default : goal.returns-in_default
+returns-in_default c = record { says = no_codes (words c.args.text.now) c.in_default.ensures.values; few = omega arith }
 
-pub returns-then-is-empty : goal.returns-then-is-empty
-returns-then-is-empty c =
+pub returns-then-is_empty : goal.returns-then-is_empty
+returns-then-is_empty c =
     let v = c.in-Some.codes in
     record {
-      says = few_codes (words c.args.text.now) (vec_items v) c.in-Some.ensures.values.1 (omega (arith, v.ok.0, eqb-true (vec_len v) 0 (sym c.if-is-empty.ensures)));
+      says = few_codes (words c.args.text.now) (vec_items v) c.in-Some.ensures.values.1 (omega (arith, v.ok.0, eqb-true (vec_len v) 0 (sym c.if-is_empty.ensures)));
       few = omega arith;
     }
 
@@ -19,6 +19,6 @@ pub returns : goal.returns
 returns c =
     let v = c.in-Some.codes in
     record {
-      says = some_codes (words c.args.text.now) (vec_items v) c.in-Some.ensures.values.1 (omega (arith, v.ok.0, eqb-false (vec_len v) 0 (sym c.if-is-empty.ensures))) c.in-Some.ensures.values.0;
+      says = some_codes (words c.args.text.now) (vec_items v) c.in-Some.ensures.values.1 (omega (arith, v.ok.0, eqb-false (vec_len v) 0 (sym c.if-is_empty.ensures))) c.in-Some.ensures.values.0;
       few = c.in-Some.ensures.few;
     }

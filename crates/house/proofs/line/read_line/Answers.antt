@@ -9,19 +9,19 @@ use Rattle.house.proofs.line.read_line.Goals as goal
 looked : (line : List ℕ) (n : ℕ) → n ≡ content_size line → take (n - 0) line ≡ content line
 looked line n e = let k : n - 0 ≡ content_size line = omega arith in ap (λ m. take m line) k
 
-pub returns-then-is-skipped : goal.returns-then-is-skipped
-returns-then-is-skipped c =
+pub returns-then-is_skipped : goal.returns-then-is_skipped
+returns-then-is_skipped c =
     let line = c.args.line.now in
-    let n = c.content-len.result in
-    record { says = by_nothing (take (n - 0) line) c.if-is-skipped.ensures ∙ ap statement (looked line n c.content-len.ensures.value); few = omega arith }
+    let n = c.content_len.result in
+    record { says = by_nothing (take (n - 0) line) c.if-is_skipped.ensures ∙ ap statement (looked line n c.content_len.ensures.value); few = omega arith }
 
 pub returns : goal.returns
 returns c =
     let line = c.args.line.now in
-    let n = c.content-len.result in
+    let n = c.content_len.result in
     let text = take (n - 0) line in
-    let short = length-take-le (n - 0) line (omega (arith, c.content-len.ensures.within)) in
+    let short = length-take-le (n - 0) line (omega (arith, c.content_len.ensures.within)) in
     record {
-      says = c.read-values.ensures.says ∙ by_words text c.split-at.result.0.now c.split-at.result.1.now c.size-before.result c.if-is-skipped.ensures c.size-before.ensures.front c.size-before.ensures.within c.split-at.ensures.front c.split-at.ensures.back c.read.result c.read.ensures ∙ ap statement (looked line n c.content-len.ensures.value);
-      few = omega (arith, c.read-values.ensures.few, c.split-at.ensures.back_len, short, c.content-len.ensures.within);
+      says = c.read_values.ensures.says ∙ by_words text c.split_at.result.0.now c.split_at.result.1.now c.size_before.result c.if-is_skipped.ensures c.size_before.ensures.front c.size_before.ensures.within c.split_at.ensures.front c.split_at.ensures.back c.read.result c.read.ensures ∙ ap statement (looked line n c.content_len.ensures.value);
+      few = omega (arith, c.read_values.ensures.few, c.split_at.ensures.back_len, short, c.content_len.ensures.within);
     }

@@ -7,8 +7,8 @@ use Rattle.input.proofs.hex.convert.Goals.{in-Open, in-Byte}
 pub loop-i-init : goal.loop-i-init
 loop-i-init c = record { few = omega arith; same_length = refl; small = tt; rest = refl; bytes = all_left (bytes_from c.args.text.now None) }
 
-pub read-character-requires : goal.read-character-requires
-read-character-requires c = c.loop-i.invariant.small
+pub read_character-requires : goal.read_character-requires
+read_character-requires c = c.loop-i.invariant.small
 
 pub unreachable-requires : goal.unreachable-requires
 unreachable-requires c =
@@ -18,7 +18,7 @@ unreachable-requires c =
 pub loop-i-preserved : goal.loop-i-preserved
 loop-i-preserved c =
     let l = c.loop-i in
-    elim c.match-read-character.branch [
+    elim c.match-read_character.branch [
       | in-Open w ↦ convert_open c.args.text.now l.text l.i l.count l.high (omega arith) l.invariant _ _ _ _ w.in-Open.ensures.value w.in-Open.ensures.small w.text-is w.count_is w.high-is
       | in-Byte w ↦ convert_byte c.args.text.now l.text l.i l.count l.high (omega arith) l.invariant _ _ _ _ w.in-Byte.ensures.value w.text-is w.count_is w.high-is
     ]

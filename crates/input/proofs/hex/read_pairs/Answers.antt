@@ -2,9 +2,9 @@ use Rattle.std.proofs.Common.{refl}
 use Rattle.input.proofs.Spelling.{spelled, stray, stray_value}
 use Rattle.input.proofs.hex.read_pairs.Goals as goal
 
-pub returns-then-not-is-hexadecimal : goal.returns-then-not-is-hexadecimal
-returns-then-not-is-hexadecimal c =
-    record { none = stray c.args.text.now c.if-not-is-hexadecimal.ensures; value = stray_value c.args.text.now c.if-not-is-hexadecimal.ensures; same = refl }
+pub returns-then-not-is_hexadecimal : goal.returns-then-not-is_hexadecimal
+returns-then-not-is_hexadecimal c =
+    record { none = stray c.args.text.now c.if-not-is_hexadecimal.ensures; value = stray_value c.args.text.now c.if-not-is_hexadecimal.ensures; same = refl }
 
 pub returns : goal.returns
 returns c =

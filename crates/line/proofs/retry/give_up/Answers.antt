@@ -11,4 +11,4 @@ one_zero = refl
 pub returns-else-silent : goal.returns-else-silent
 returns-else-silent c =
     let e = sym (ap last_reply c.if-silent.false) in
-    record { buffer = c.new-buffer.ensures ∙ one_zero ∙ ap filled e; count = ap length e }
+    record { buffer = c.new_buffer.ensures ∙ one_zero ∙ ap filled e; count = ap length e }

@@ -7,8 +7,8 @@ use Rattle.line.proofs.Hearing.{hear_twice}
 use Rattle.line.proofs.Sent.{sent_by}
 use Rattle.line.proofs.sending.send.Goals as goal
 
-pub slice-bounds-exchange-end : goal.slice-bounds-exchange-end
-slice-bounds-exchange-end g c =
+pub slice_bounds-exchange-end : goal.slice_bounds-exchange-end
+slice_bounds-exchange-end g c =
     let w = c.write-count.ensures in
     let bytes = request_bytes c.args.request.now in
     let few : length bytes ≤ 261 = filled_few bytes (sym (ap length w.buffer) ∙ c.write-count.array_long) in

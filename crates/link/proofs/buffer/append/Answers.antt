@@ -7,6 +7,6 @@ returns c =
     let bs = c.args.bytes.now in
     let at = c.args.at in
     record {
-      buffer = λ front h e. simp (e, c.copy-from-slice.ensures.after) (filled_more front bs at (at + length bs - at) h (omega arith) (omega arith));
+      buffer = λ front h e. simp (e, c.copy_from_slice.ensures.after) (filled_more front bs at (at + length bs - at) h (omega arith) (omega arith));
       count = refl;
     }

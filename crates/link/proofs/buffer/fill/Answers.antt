@@ -18,6 +18,6 @@ returns c =
     let bs = c.args.bytes.now in
     let same = at_most bs c.min-count.result c.min-count.ensures in
     record {
-      buffer = filled_once _ _ _ c.new-buffer.ensures c.append.ensures.buffer ∙ ap filled same;
+      buffer = filled_once _ _ _ c.new_buffer.ensures c.append.ensures.buffer ∙ ap filled same;
       count = c.append.ensures.count ∙ omega (arith, ap length same);
     }

@@ -6,7 +6,7 @@ pub returns : goal.returns
 returns c =
     let bs = c.args.bytes.now in
     let h : Headed bs = record { start_is = c.requires; least = omega arith; again = omega arith; fourth = omega arith } in
-    let passed = c.in-ok-check-end.ensures in
+    let passed = c.in_ok-check_end.ensures in
     record {
       fault = passed ∙ sym (headed_checks bs h (omega arith));
       bytes = long_bytes bs h (ended 4 (get_or bs 1 0 + 6) bs (sym passed));

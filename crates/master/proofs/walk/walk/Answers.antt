@@ -15,8 +15,8 @@ walk-init g c =
     let none = ap (λ n. take n (all_places c.clear.new.self)) c.clear.ensures.used in
     (sofar_start _ _ _ c.first-at.ensures.digits (ap (map entry_of) none), filled_start _ c.clear.new.self refl, refl, refl)
 
-pub overflow-add-selections : goal.overflow-add-selections
-overflow-add-selections g c = let small = sofar_small _ _ (g.L.Line.means c.walk.line) _ _ _ c.walk.invariant.0 in omega arith
+pub overflow_add-selections : goal.overflow_add-selections
+overflow_add-selections g c = let small = sofar_small _ _ (g.L.Line.means c.walk.line) _ _ _ c.walk.invariant.0 in omega arith
 
 pub walk-smaller : goal.walk-smaller
 walk-smaller g c = sofar_less _ _ _ _ _ _ c.walk.invariant.0 _ c.probe-verdict.ensures.probed (digits_of c.in-Some.next) c.in-Some.ensures.next
@@ -31,29 +31,29 @@ walk-preserved g c =
       c.probe-verdict.ensures.layers ∙ c.walk.invariant.3,
     )
 
-pub returns-in-default : goal.returns-in-default
-returns-in-default g c =
+pub returns-in_default : goal.returns-in_default
+returns-in_default g c =
     let l = c.add.new.list in
-    let refused = c.in-default.ensures.cases in
+    let refused = c.in_default.ensures.cases in
     let same = ap (map entry_of) refused.1 in
-    let filled = c.in-default.ensures.filled _ c.walk.invariant.1 in
+    let filled = c.in_default.ensures.filled _ c.walk.invariant.1 in
     let placed = subst (λ ps. Filled ps l) c.clear.ensures.places filled in
     let single = ap length (sym c.entry.ensures.found) ∙ length-map (option_to_list c.entry.result) entry_of ∙ refused.0 in
     let most = length-map (entries_of l) entry_of ∙ length-take-le (used_of l) (all_places l) l.within ∙ refused.2 ∙ placed.size in
     record {
       walked = sofar_full _ _ _ _ _ _ c.walk.invariant.0 _ c.probe-verdict.ensures.probed single _ same _ most;
       filled = placed;
-      lender = c.in-default.ensures.lender ∙ c.walk.invariant.2 ∙ c.clear.ensures.lender;
+      lender = c.in_default.ensures.lender ∙ c.walk.invariant.2 ∙ c.clear.ensures.lender;
       layers = c.probe-verdict.ensures.layers ∙ c.walk.invariant.3;
     }
 
-pub returns-in-default-after : goal.returns-in-default-after
-returns-in-default-after g c =
+pub returns-in_default-after : goal.returns-in_default-after
+returns-in_default-after g c =
     let added = c.in-Ok.ensures.cases in
     let more = ap (map entry_of) added ∙ map-append entry_of (entries_of c.walk.list) (option_to_list c.entry.result) ∙ ap (λ l. map entry_of (entries_of c.walk.list) ++ l) c.entry.ensures.found in
     let filled = c.in-Ok.ensures.filled _ c.walk.invariant.1 in
     record {
-      walked = sofar_whole _ _ _ _ _ _ c.walk.invariant.0 _ c.probe-verdict.ensures.probed c.in-default-after.ensures.next _ more _;
+      walked = sofar_whole _ _ _ _ _ _ c.walk.invariant.0 _ c.probe-verdict.ensures.probed c.in_default-after.ensures.next _ more _;
       filled = subst (λ ps. Filled ps c.add.new.list) c.clear.ensures.places filled;
       lender = c.in-Ok.ensures.lender ∙ c.walk.invariant.2 ∙ c.clear.ensures.lender;
       layers = c.probe-verdict.ensures.layers ∙ c.walk.invariant.3;

@@ -5,6 +5,6 @@ use Rattle.quantity.proofs.table.row_of.Goals as goal
 
 pub returns : goal.returns
 returns c =
-    let s = c.start-of-start.result in
+    let s = c.start_of-start.result in
     let all : take (28 - s) (drop s table) ≡ drop s table = take_all (28 - s) (drop s table) (omega (arith, length-drop s table)) in
-    c.find-row.ensures ∙ ap (row_with c.args.code) all ∙ c.start-of-start.ensures.passed
+    c.find_row.ensures ∙ ap (row_with c.args.code) all ∙ c.start_of-start.ensures.passed

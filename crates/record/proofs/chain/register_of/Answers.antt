@@ -7,23 +7,23 @@ use Rattle.record.proofs.chain.register_of.Goals as goal
 few : (base : ℕ) (digit : ℕ → ℕ) (bs : List ℕ) (i n : ℕ) → 0 < base → length bs ≤ 10 → Read base digit 1 bs i n → n + 1 ≤ base ^ 10
 few base digit bs i n p h r = omega (arith, r.bound, pow_most base (length bs - i) 10 p (omega arith))
 
-pub overflow-mul-storage : goal.overflow-mul-storage
-overflow-mul-storage c = record { fits = omega (arith, few 16 _ c.args.difes.now _ _ (omega arith) (omega arith) c.loop-i.invariant.0) }
+pub overflow_mul-storage : goal.overflow_mul-storage
+overflow_mul-storage c = record { fits = omega (arith, few 16 _ c.args.difes.now _ _ (omega arith) (omega arith) c.loop-i.invariant.0) }
 
-pub overflow-add-storage : goal.overflow-add-storage
-overflow-add-storage c = record { fits = omega (arith, few 16 _ c.args.difes.now _ _ (omega arith) (omega arith) c.loop-i.invariant.0) }
+pub overflow_add-storage : goal.overflow_add-storage
+overflow_add-storage c = record { fits = omega (arith, few 16 _ c.args.difes.now _ _ (omega arith) (omega arith) c.loop-i.invariant.0) }
 
-pub overflow-mul-tariff : goal.overflow-mul-tariff
-overflow-mul-tariff c = record { fits = omega (arith, few 4 _ c.args.difes.now _ _ (omega arith) (omega arith) c.loop-i.invariant.1) }
+pub overflow_mul-tariff : goal.overflow_mul-tariff
+overflow_mul-tariff c = record { fits = omega (arith, few 4 _ c.args.difes.now _ _ (omega arith) (omega arith) c.loop-i.invariant.1) }
 
-pub overflow-add-tariff : goal.overflow-add-tariff
-overflow-add-tariff c = record { fits = omega (arith, few 4 _ c.args.difes.now _ _ (omega arith) (omega arith) c.loop-i.invariant.1) }
+pub overflow_add-tariff : goal.overflow_add-tariff
+overflow_add-tariff c = record { fits = omega (arith, few 4 _ c.args.difes.now _ _ (omega arith) (omega arith) c.loop-i.invariant.1) }
 
-pub overflow-mul-subunit : goal.overflow-mul-subunit
-overflow-mul-subunit c = record { fits = omega (arith, few 2 _ c.args.difes.now _ _ (omega arith) (omega arith) c.loop-i.invariant.2) }
+pub overflow_mul-subunit : goal.overflow_mul-subunit
+overflow_mul-subunit c = record { fits = omega (arith, few 2 _ c.args.difes.now _ _ (omega arith) (omega arith) c.loop-i.invariant.2) }
 
-pub overflow-add-subunit : goal.overflow-add-subunit
-overflow-add-subunit c = record { fits = omega (arith, few 2 _ c.args.difes.now _ _ (omega arith) (omega arith) c.loop-i.invariant.2) }
+pub overflow_add-subunit : goal.overflow_add-subunit
+overflow_add-subunit c = record { fits = omega (arith, few 2 _ c.args.difes.now _ _ (omega arith) (omega arith) c.loop-i.invariant.2) }
 
 pub loop-i-init : goal.loop-i-init
 loop-i-init c =
@@ -40,11 +40,11 @@ loop-i-preserved c = (
   more 2 _ c.args.difes.now c.loop-i.i _ _ (omega arith) (omega arith) (omega arith) c.loop-i.invariant.2 c.from-in-loop-i-2.ensures,
 )
 
-pub overflow-mul-result : goal.overflow-mul-result
-overflow-mul-result c = record { fits = omega (arith, few 16 _ c.args.difes.now _ _ (omega arith) (omega arith) c.loop-i.invariant.0) }
+pub overflow_mul-result : goal.overflow_mul-result
+overflow_mul-result c = record { fits = omega (arith, few 16 _ c.args.difes.now _ _ (omega arith) (omega arith) c.loop-i.invariant.0) }
 
-pub overflow-add-result : goal.overflow-add-result
-overflow-add-result c = record { fits = omega (arith, few 16 _ c.args.difes.now _ _ (omega arith) (omega arith) c.loop-i.invariant.0) }
+pub overflow_add-result : goal.overflow_add-result
+overflow_add-result c = record { fits = omega (arith, few 16 _ c.args.difes.now _ _ (omega arith) (omega arith) c.loop-i.invariant.0) }
 
 -- all DIFEs, by weights from number 1 on
 all_read : (base : ℕ) (digit : ℕ → ℕ) (bs : List ℕ) (i n : ℕ) → i ≤ 0 → Read base digit 1 bs i n → n ≡ total (λ i. base ^ (i - 1)) digit 1 bs

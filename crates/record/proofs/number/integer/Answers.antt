@@ -5,8 +5,8 @@ use Rattle.record.proofs.Positions.{half_is, half_twice, pow_most}
 use Rattle.record.proofs.number.integer.Goals as goal
 use Rattle.record.proofs.number.integer.Goals.{then-negative, else-negative}
 
-pub overflow-sub-distance-then-negative-2 : goal.overflow-sub-distance-then-negative-2
-overflow-sub-distance-then-negative-2 c =
+pub overflow_sub-distance-then-negative-2 : goal.overflow_sub-distance-then-negative-2
+overflow_sub-distance-then-negative-2 c =
     let k = length c.args.bytes.now in
     omega (arith, half_is k (omega arith) (omega arith), half_twice k (omega arith), c.unsigned-n.ensures.bound)
 

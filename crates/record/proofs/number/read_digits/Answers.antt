@@ -19,15 +19,15 @@ loop-i-init c =
     let P : ℕ → Type 0 = λ i. Read 100 pair 2 (magnitude bs) i 0 in
     (subst P (length_magnitude bs) (read_none 100 pair 2 (magnitude bs)), lead_none decimal (magnitude bs) (length bs) (length_magnitude bs))
 
-pub overflow-mul-value : goal.overflow-mul-value
-overflow-mul-value c =
+pub overflow_mul-value : goal.overflow_mul-value
+overflow_mul-value c =
     let bs = magnitude c.args.bytes.now in
     let e = length_magnitude c.args.bytes.now in
     let h = read_fits 100 pair 2 bs c.loop-i.i c.loop-i.value 0 (omega arith) (omega arith) (omega arith) c.loop-i.invariant.0 (omega arith) (omega arith) (few (length bs) (omega arith)) in
     record { fits = omega arith }
 
-pub overflow-add-value-in-loop-i : goal.overflow-add-value-in-loop-i
-overflow-add-value-in-loop-i c =
+pub overflow_add-value-in-loop-i : goal.overflow_add-value-in-loop-i
+overflow_add-value-in-loop-i c =
     let bs = magnitude c.args.bytes.now in
     let e = length_magnitude c.args.bytes.now in
     record {
@@ -39,9 +39,9 @@ loop-i-preserved c =
     let bs = magnitude c.args.bytes.now in
     let e = length_magnitude c.args.bytes.now in (
       read_more 100 pair 2 bs c.loop-i.i c.loop-i.value (pair c.from-b.result) (omega arith) (omega arith) (small c.from-b.result (omega arith)) c.loop-i.invariant.0
-          (ap pair (c.from-b.ensures ∙ c.digits-at-byte.ensures)),
+          (ap pair (c.from-b.ensures ∙ c.digits_at-byte.ensures)),
       lead_more decimal bs c.loop-i.i c.loop-i.bad _ (omega arith) (omega arith) c.loop-i.invariant.1
-          (c.first-bad-from-bad.ensures ∙ ap (λ t. cond t c.loop-i.bad (c.loop-i.i - 1)) (c.is_decimal.ensures ∙ ap decimal c.digits-at-byte.ensures)),
+          (c.first_bad_from-bad.ensures ∙ ap (λ t. cond t c.loop-i.bad (c.loop-i.i - 1)) (c.is_decimal.ensures ∙ ap decimal c.digits_at-byte.ensures)),
     )
 
 pub returns : goal.returns

@@ -8,14 +8,14 @@ few m h = omega (arith, pow_most 256 m 8 (omega arith) h)
 pub loop-i-init : goal.loop-i-init
 loop-i-init c = read_none 256 (λ b. b) 1 c.args.bytes.now
 
-pub overflow-mul-n : goal.overflow-mul-n
-overflow-mul-n c =
+pub overflow_mul-n : goal.overflow_mul-n
+overflow_mul-n c =
     let bs = c.args.bytes.now in
     let h = read_fits 256 (λ b. b) 1 bs c.loop-i.i c.loop-i.n 0 (omega arith) (omega arith) (omega arith) c.loop-i.invariant (omega arith) (omega arith) (few (length bs) (omega arith)) in
     record { fits = omega arith }
 
-pub overflow-add-n : goal.overflow-add-n
-overflow-add-n c =
+pub overflow_add-n : goal.overflow_add-n
+overflow_add-n c =
     let bs = c.args.bytes.now in
     record {
       fits = read_fits 256 (λ b. b) 1 bs c.loop-i.i c.loop-i.n c.from.result (omega arith) (omega arith) (search rules) c.loop-i.invariant (omega arith) (omega arith) (few (length bs) (omega arith));

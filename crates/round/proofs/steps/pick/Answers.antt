@@ -6,7 +6,7 @@ pub returns : goal.returns
 returns g c =
     let f = c.pick-picked.ensures in
     record {
-      goes = λ room es. pick_goes g.L.Line.means room es c.args.idle c.args.address c.pick-picked.result c.is-answered-answered.result c.is-answered-answered.ensures f.sent f.starts;
+      goes = λ room es. pick_goes g.L.Line.means room es c.args.idle c.args.address c.pick-picked.result c.is_answered-answered.result c.is_answered-answered.ensures f.sent f.starts;
       house = same_house _ _ (exchange_keeps _ _ _ _ f.sent.exchange);
       layers = f.layers;
     }

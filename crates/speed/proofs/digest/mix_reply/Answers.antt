@@ -12,4 +12,4 @@ returns c =
     let tail : List ℕ = t.access ∷ t.status ∷ t.signature ∷ [] in
     let l : length a ≡ 8 = search rules in
     let spelt = ap (mixed_all c.args.digest) (sym (spelled_whole a 8 l) ∙ c.bytes-a.ensures) in
-    c.mix-all.ensures ∙ ap (λ d. mixed_all d tail) (c.mix-all-address.ensures ∙ spelt) ∙ sym (mixed_parts c.args.digest (address_bytes t.address) tail)
+    c.mix_all.ensures ∙ ap (λ d. mixed_all d tail) (c.mix_all-address.ensures ∙ spelt) ∙ sym (mixed_parts c.args.digest (address_bytes t.address) tail)

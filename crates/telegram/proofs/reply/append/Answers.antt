@@ -11,6 +11,6 @@ returns c =
     let size : length old ≡ 252 = search rules in
     let h : length (take at old ++ bs) ≡ at + length bs = omega (arith, length-append (take at old) bs, length-take-le at old (omega arith)) in
     record {
-      front = simp (c.copy-from-slice.ensures.after, ← append_assoc (take at old) bs (drop k (drop at old))) (take_at (take at old ++ bs) (drop k (drop at old)) (at + length bs) h);
+      front = simp (c.copy_from_slice.ensures.after, ← append_assoc (take at old) bs (drop k (drop at old))) (take_at (take at old ++ bs) (drop k (drop at old)) (at + length bs) h);
       count = refl;
     }

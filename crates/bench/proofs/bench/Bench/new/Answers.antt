@@ -8,45 +8,45 @@ use Rattle.bench.proofs.Ordering.{order_of}
 use Rattle.bench.proofs.Stretches.{longest_is}
 use Rattle.bench.proofs.bench.Bench.new.Goals as goal
 
-pub returns-in-err-check : goal.returns-in-err-check
-returns-in-err-check c =
+pub returns-in_err-check : goal.returns-in_err-check
+returns-in_err-check c =
     let rows = vec_items c.args.rows in
     let area = vec_items c.args.area in
     let codes = vec_items c.args.codes in
-    let p = err_from_is_err_and c.from-residual.result c.from-residual.ensures.1 in
-    let r : c.from-residual.result ≡ Err c.in-err-check.field-0.0 = p.1 ∙ ap Err p.2 in
-    let told : bench_fault c.from-residual.result ≡ bench_refusal rows area codes =
-    ap bench_fault r ∙ refusal_at rows area codes {o = Some (bench_report c.in-err-check.field-0.0)} c.as-slice.ensures.value c.as-slice-2.ensures.value c.as-slice-3.ensures.value c.in-err-check.ensures in
+    let p = err_from_is_err_and c.from_residual.result c.from_residual.ensures.1 in
+    let r : c.from_residual.result ≡ Err c.in_err-check.field-0.0 = p.1 ∙ ap Err p.2 in
+    let told : bench_fault c.from_residual.result ≡ bench_refusal rows area codes =
+    ap bench_fault r ∙ refusal_at rows area codes {o = Some (bench_report c.in_err-check.field-0.0)} c.as_slice.ensures.value c.as_slice-2.ensures.value c.as_slice-3.ensures.value c.in_err-check.ensures in
     record {
       fault = told;
-      order = order_of rows area codes (bench_fault c.from-residual.result) told;
-      made-from = decided rows area codes c.from-residual.result told;
+      order = order_of rows area codes (bench_fault c.from_residual.result) told;
+      made_from = decided rows area codes c.from_residual.result told;
       bench = rw r tt;
       run = longest_is codes;
     }
 
-pub invariant-of-new : goal.invariant-of-new
-invariant-of-new c =
+pub invariant_of-new : goal.invariant_of-new
+invariant_of-new c =
     let rows = vec_items c.args.rows in
     let area = vec_items c.args.area in
     let codes = vec_items c.args.codes in
-    let none = refusal_at rows area codes {o = None} c.as-slice.ensures.value c.as-slice-2.ensures.value c.as-slice-3.ensures.value c.in-ok-check.ensures in
+    let none = refusal_at rows area codes {o = None} c.as_slice.ensures.value c.as_slice-2.ensures.value c.as_slice-3.ensures.value c.in_ok-check.ensures in
     ((accepted rows area codes none).fitting, tt)
 
-pub invariant-of-faults : goal.invariant-of-faults
-invariant-of-faults c =
+pub invariant_of-faults : goal.invariant_of-faults
+invariant_of-faults c =
     let rows = vec_items c.args.rows in
     let area = vec_items c.args.area in
     let codes = vec_items c.args.codes in
-    let none = refusal_at rows area codes {o = None} c.as-slice.ensures.value c.as-slice-2.ensures.value c.as-slice-3.ensures.value c.in-ok-check.ensures in
+    let none = refusal_at rows area codes {o = None} c.as_slice.ensures.value c.as_slice-2.ensures.value c.as_slice-3.ensures.value c.in_ok-check.ensures in
     (omega (arith, (accepted rows area codes none).few_codes, c.args.codes.ok.0), tt)
 
-pub invariant-of-result : goal.invariant-of-result
-invariant-of-result c =
+pub invariant_of-result : goal.invariant_of-result
+invariant_of-result c =
     let rows = vec_items c.args.rows in
     let area = vec_items c.args.area in
     let codes = vec_items c.args.codes in
-    let none = refusal_at rows area codes {o = None} c.as-slice.ensures.value c.as-slice-2.ensures.value c.as-slice-3.ensures.value c.in-ok-check.ensures in
+    let none = refusal_at rows area codes {o = None} c.as_slice.ensures.value c.as_slice-2.ensures.value c.as_slice-3.ensures.value c.in_ok-check.ensures in
     let means = new_means c.new-bus.result rows area codes c.new-bus.ensures.bus in
     (∣ subst Sound (sym means) (new_sound rows area codes (accepted rows area codes none).fitting) ∣₁, tt)
 
@@ -55,12 +55,12 @@ returns c =
     let rows = vec_items c.args.rows in
     let area = vec_items c.args.area in
     let codes = vec_items c.args.codes in
-    let none = refusal_at rows area codes {o = None} c.as-slice.ensures.value c.as-slice-2.ensures.value c.as-slice-3.ensures.value c.in-ok-check.ensures in
+    let none = refusal_at rows area codes {o = None} c.as_slice.ensures.value c.as_slice-2.ensures.value c.as_slice-3.ensures.value c.in_ok-check.ensures in
     let means = new_means c.new-bus.result rows area codes c.new-bus.ensures.bus in
     record {
       fault = none;
       order = order_of rows area codes None none;
-      made-from = (λ _. (accepted rows area codes none).proper, λ _. refl);
+      made_from = (λ _. (accepted rows area codes none).proper, λ _. refl);
       bench = record { means = means; sound = subst Sound (sym means) (new_sound rows area codes (accepted rows area codes none).fitting); codes_are = refl; first = refl };
       run = longest_is codes;
     }

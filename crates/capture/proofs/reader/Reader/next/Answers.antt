@@ -7,21 +7,21 @@ use Rattle.capture.proofs.Carrying.{address_read}
 use Rattle.capture.proofs.Cuts.{end_within, part_is}
 use Rattle.capture.proofs.reader.Reader.next.Goals as goal
 
-pub slice-bounds-read-end : goal.slice-bounds-read-end
-slice-bounds-read-end c = omega (arith, end_within c.args.self.now.bytes.now c.args.self.now.at (omega arith))
+pub slice_bounds-read-end : goal.slice_bounds-read-end
+slice_bounds-read-end c = omega (arith, end_within c.args.self.now.bytes.now c.args.self.now.at (omega arith))
 
-pub returns-in-err-reply : goal.returns-in-err-reply
-returns-in-err-reply c =
-    let fault = c.in-err-reply.field-0.0 in
+pub returns-in_err-reply : goal.returns-in_err-reply
+returns-in_err-reply c =
+    let fault = c.in_err-reply.field-0.0 in
     let e = part_is c.args.self.now.bytes.now c.args.self.now.at c.new-guard.result.end.now c.new-guard.ensures.end in
-    let f = c.in-err-reply.ensures in
-    let p = err_from_is_err_and c.from-residual.result c.from-residual.ensures.1 in
+    let f = c.in_err-reply.ensures in
+    let p = err_from_is_err_and c.from_residual.result c.from_residual.ensures.1 in
     let faulty = subst (λ x. Faulty x fault) e (record { told = sym f.fault; rises = f.rises }) in
     record { bytes = search rules; end = search rules; taken = rw (p.1, p.2) (record { faulty = faulty; stays = search rules }) }
 
 pub returns : goal.returns
 returns c =
     let e = part_is c.args.self.now.bytes.now c.args.self.now.at c.new-guard.result.end.now c.new-guard.ensures.end in
-    let f = c.in-ok-reply.ensures in
-    let a = address_read c.in-ok-reply.reply _ f.reads in
+    let f = c.in_ok-reply.ensures in
+    let a = address_read c.in_ok-reply.reply _ f.reads in
     record { bytes = search rules; end = search rules; taken = record { sound = sym (f.fault ∙ ap reply_refusal e); carried = a ∙ ap address_in e; moved = c.new-guard.ensures.end } }

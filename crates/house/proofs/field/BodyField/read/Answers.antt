@@ -14,17 +14,17 @@ back_part w n e = take_rest w (n + 1) ∙ e
 pub returns-then-size-word : goal.returns-then-size-word
 returns-then-size-word c =
     let w = c.args.word.now in
-    let n = c.size-before-size.result in
-    no_plus w (take n w) (drop (n + 1) w) c.size-before-size.ensures.front c.size-before-size.ensures.back (omega (arith, length-drop (n + 1) w))
+    let n = c.size_before-size.result in
+    no_plus w (take n w) (drop (n + 1) w) c.size_before-size.ensures.front c.size_before-size.ensures.back (omega (arith, length-drop (n + 1) w))
 
-pub returns-in-default-decimal : goal.returns-in-default-decimal
-returns-in-default-decimal c =
+pub returns-in_default-decimal : goal.returns-in_default-decimal
+returns-in_default-decimal c =
     let w = c.args.word.now in
-    let n = c.size-before-size.result in
-    bad_length w _ _ (front_part w n c.size-before-size.ensures.front) (back_part w n c.size-before-size.ensures.back) c.in-default-decimal.ensures
+    let n = c.size_before-size.result in
+    bad_length w _ _ (front_part w n c.size_before-size.ensures.front) (back_part w n c.size_before-size.ensures.back) c.in_default-decimal.ensures
 
 pub returns : goal.returns
 returns c =
     let w = c.args.word.now in
-    let n = c.size-before-size.result in
-    good_body w _ _ (front_part w n c.size-before-size.ensures.front) (back_part w n c.size-before-size.ensures.back) c.in-Some.start c.in-Some-decimal.length c.in-Some.ensures c.in-Some-decimal.ensures
+    let n = c.size_before-size.result in
+    good_body w _ _ (front_part w n c.size_before-size.ensures.front) (back_part w n c.size_before-size.ensures.back) c.in-Some.start c.in-Some-decimal.length c.in-Some.ensures c.in-Some-decimal.ensures

@@ -4,8 +4,8 @@ use Rattle.line.proofs.Exchanging.{stands}
 use Rattle.line.proofs.Retrying.{retried_buffer, tries_answered, tries_again, tries_failed}
 use Rattle.line.proofs.retry.RetryLine.exchange.Goals as goal
 
-pub is-answered-requires : goal.is-answered-requires
-is-answered-requires g c = c.exchange-count.ensures.exchanged.within
+pub is_answered-requires : goal.is_answered-requires
+is_answered-requires g c = c.exchange-count.ensures.exchanged.within
 
 pub loop-i-init : goal.loop-i-init
 loop-i-init g c =
@@ -14,12 +14,12 @@ loop-i-init g c =
     let whole : k - 0 ≡ k = omega arith in
     (λ r u h. subst (λ m. Tries c.args.request.now m true s r u) whole h, refl, refl)
 
-pub returns-then-is-answered : goal.returns-then-is-answered
-returns-then-is-answered g c =
+pub returns-then-is_answered : goal.returns-then-is_answered
+returns-then-is_answered g c =
     let inv = c.loop-i.invariant in
     let x = c.exchange-count.ensures in
     let k : ℕ = c.args.self.now.limit + 1 in
-    let tries = inv.0 _ _ (tries_answered k c.loop-i.i c.loop-i-test.true c.loop-i.silent x.exchanged c.if-is-answered.ensures) in
+    let tries = inv.0 _ _ (tries_answered k c.loop-i.i c.loop-i-test.true c.loop-i.silent x.exchanged c.if-is_answered.ensures) in
     let all = retried_buffer k (omega arith) (g.L.Line.sound c.args.self.now.below) x.exchanged.within x.exchanged.then_zeros tries in
     record { exchanged = rw inv.1 all; layers = ap₂ (λ t n. t * (n + 1)) (x.layers ∙ inv.2) inv.1; retried = tries; limit = inv.1 }
 
@@ -29,12 +29,12 @@ loop-i-preserved g c =
     let x = c.exchange-count.ensures in
     let k : ℕ = c.args.self.now.limit + 1 in
     let size : length c.exchange-count.new.reply ≡ 261 = omega arith in
-    (λ r u rest. inv.0 r u (tries_again k c.loop-i.i c.loop-i-test.true c.loop-i.silent x.exchanged size c.if-is-answered.ensures r u rest), inv.1, x.layers ∙ inv.2)
+    (λ r u rest. inv.0 r u (tries_again k c.loop-i.i c.loop-i-test.true c.loop-i.silent x.exchanged size c.if-is_answered.ensures r u rest), inv.1, x.layers ∙ inv.2)
 
 pub returns : goal.returns
 returns g c =
     let inv = c.loop-i.invariant in
-    let h = stands c.give-up.ensures.count c.give-up.ensures.buffer c.give-up.array_long in
+    let h = stands c.give_up.ensures.count c.give_up.ensures.buffer c.give_up.array_long in
     let t = g.L.Line.means c.loop-i.self.below in
     let q = c.args.request.now in
     let k : ℕ = c.args.self.now.limit + 1 in

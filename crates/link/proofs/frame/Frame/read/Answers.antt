@@ -15,27 +15,27 @@ returns-then-bytes-eq0 c =
 pub returns-in-229 : goal.returns-in-229
 unfolding frame_refusal
 returns-in-229 c =
-    let told : frame_fault c.read-ack.result ≡ frame_refusal c.args.bytes.now = search rules in
-    let j = judged c.args.bytes.now c.read-ack.result told c.read-ack.ensures.bytes in
+    let told : frame_fault c.read_ack.result ≡ frame_refusal c.args.bytes.now = search rules in
+    let j = judged c.args.bytes.now c.read_ack.result told c.read_ack.ensures.bytes in
     record { fault = told; order = j.order; frame = j.frame; reads = j.reads }
 
 pub returns-in-16 : goal.returns-in-16
 unfolding frame_refusal
 returns-in-16 c =
-    let told : frame_fault c.read-short.result ≡ frame_refusal c.args.bytes.now = search rules in
-    let j = judged c.args.bytes.now c.read-short.result told c.read-short.ensures.bytes in
+    let told : frame_fault c.read_short.result ≡ frame_refusal c.args.bytes.now = search rules in
+    let j = judged c.args.bytes.now c.read_short.result told c.read_short.ensures.bytes in
     record { fault = told; order = j.order; frame = j.frame; reads = j.reads }
 
 pub returns-in-104 : goal.returns-in-104
 unfolding frame_refusal
 returns-in-104 c =
-    let told : frame_fault c.read-long.result ≡ frame_refusal c.args.bytes.now = search rules in
-    let j = judged c.args.bytes.now c.read-long.result told c.read-long.ensures.bytes in
+    let told : frame_fault c.read_long.result ≡ frame_refusal c.args.bytes.now = search rules in
+    let j = judged c.args.bytes.now c.read_long.result told c.read_long.ensures.bytes in
     record { fault = told; order = j.order; frame = j.frame; reads = j.reads }
 
-pub returns-in-default : goal.returns-in-default
+pub returns-in_default : goal.returns-in_default
 unfolding frame_refusal
-returns-in-default c =
+returns-in_default c =
     let told : Some (frame_report Start) ≡ frame_refusal c.args.bytes.now = search rules in
     let j = judged c.args.bytes.now (Err Start) told tt in
     record { fault = told; order = j.order; frame = j.frame; reads = j.reads }

@@ -18,9 +18,9 @@ returns-in-Short c =
     let n : c.fill-in-Short.result ≡ length (written p) = search rules in
     record { fault = search rules; count = n; buffer = b; readable = readable c.fill-in-Short.new.buffer c.fill-in-Short.result p b n }
 
-pub returns-else-data-gt-MOST-DATA : goal.returns-else-data-gt-MOST-DATA
-returns-else-data-gt-MOST-DATA c =
+pub returns-else-data-gt-MOST_DATA : goal.returns-else-data-gt-MOST_DATA
+returns-else-data-gt-MOST_DATA c =
     let p = parts c.args.self.now in
-    let b : c.write-long.new.buffer ≡ filled (written p) = search rules in
-    let n : c.write-long.result ≡ length (written p) = search rules in
-    record { fault = search rules; count = n; buffer = b; readable = readable c.write-long.new.buffer c.write-long.result p b n }
+    let b : c.write_long.new.buffer ≡ filled (written p) = search rules in
+    let n : c.write_long.result ≡ length (written p) = search rules in
+    record { fault = search rules; count = n; buffer = b; readable = readable c.write_long.new.buffer c.write_long.result p b n }

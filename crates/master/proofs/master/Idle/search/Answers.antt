@@ -5,7 +5,7 @@ use Rattle.master.proofs.master.Idle.search.Goals as goal
 
 pub returns-then-end : goal.returns-then-end
 returns-then-end g c =
-    let sent = walked_released _ _ _ _ _ _ _ _ c.walk-end.ensures.walked c.send-release.ensures.sent c.if-end.true in
+    let sent = walked_released _ _ _ _ _ _ _ _ c.walk-end.ensures.walked c.send_release.ensures.sent c.if-end.true in
     record {
       searched = sent;
       finds = search_finds _ _ _ _ _ _ (g.L.Line.sound c.args.self.now.line) sent;
@@ -13,12 +13,12 @@ returns-then-end g c =
       entries = ap length c.entries.ensures;
       filled = c.walk-end.ensures.filled;
       lender = c.walk-end.ensures.lender;
-      layers = c.send-release.ensures.layers ∙ c.walk-end.ensures.layers;
+      layers = c.send_release.ensures.layers ∙ c.walk-end.ensures.layers;
     }
 
 pub returns-else-end : goal.returns-else-end
 returns-else-end g c =
-    let sent = walked_released _ _ _ _ _ _ _ _ c.walk-end.ensures.walked c.send-release.ensures.sent c.if-end.false in
+    let sent = walked_released _ _ _ _ _ _ _ _ c.walk-end.ensures.walked c.send_release.ensures.sent c.if-end.false in
     record {
       searched = sent;
       finds = search_finds _ _ _ _ _ _ (g.L.Line.sound c.args.self.now.line) sent;
@@ -26,5 +26,5 @@ returns-else-end g c =
       entries = ap length c.entries.ensures;
       filled = c.walk-end.ensures.filled;
       lender = c.walk-end.ensures.lender;
-      layers = c.send-release.ensures.layers ∙ c.walk-end.ensures.layers;
+      layers = c.send_release.ensures.layers ∙ c.walk-end.ensures.layers;
     }

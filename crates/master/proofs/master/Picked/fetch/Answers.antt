@@ -6,7 +6,7 @@ use Rattle.master.proofs.master.Picked.fetch.Goals as goal
 
 pub returns-then-not-self : goal.returns-then-not-self
 returns-then-not-self g c =
-    let f = fetch_unanswered _ _ _ _ c.if-not-self.true c.new-buffer.ensures in
+    let f = fetch_unanswered _ _ _ _ c.if-not-self.true c.new_buffer.ensures in
     record {
       fetched = f;
       continues = λ p m k l. fetch_continues p m k _ _ _ _ _ _ _ (g.L.Line.sound c.args.self.now.line) f l;
@@ -14,9 +14,9 @@ returns-then-not-self g c =
       layers = refl;
     }
 
-pub returns-then-is-ok : goal.returns-then-is-ok
-returns-then-is-ok g c =
-    let f = fetch_accepted _ _ _ _ _ _ c.if-not-self.false c.send-count.ensures.sent.exchanged c.send-count.array_long (read_is c.send-count.result c.send-count.new.reply c.read.result c.read.ensures.fault ∙ sym c.if-is-ok.ensures.value) in
+pub returns-then-is_ok : goal.returns-then-is_ok
+returns-then-is_ok g c =
+    let f = fetch_accepted _ _ _ _ _ _ c.if-not-self.false c.send-count.ensures.sent.exchanged c.send-count.array_long (read_is c.send-count.result c.send-count.new.reply c.read.result c.read.ensures.fault ∙ sym c.if-is_ok.ensures.value) in
     record {
       fetched = f;
       continues = λ p m k l. fetch_continues p m k _ _ _ _ _ _ _ (g.L.Line.sound c.args.self.now.line) f l;
@@ -26,7 +26,7 @@ returns-then-is-ok g c =
 
 pub returns-then-count-eq0 : goal.returns-then-count-eq0
 returns-then-count-eq0 g c =
-    let f = fetch_silent _ _ _ _ _ _ c.if-not-self.false c.send-count.ensures.sent.exchanged c.send-count.array_long _ c.new-buffer-2.ensures c.if-count-eq0.true in
+    let f = fetch_silent _ _ _ _ _ _ c.if-not-self.false c.send-count.ensures.sent.exchanged c.send-count.array_long _ c.new_buffer-2.ensures c.if-count-eq0.true in
     record {
       fetched = f;
       continues = λ p m k l. fetch_continues p m k _ _ _ _ _ _ _ (g.L.Line.sound c.args.self.now.line) f l;
@@ -36,7 +36,7 @@ returns-then-count-eq0 g c =
 
 pub returns-else-count-eq0 : goal.returns-else-count-eq0
 returns-else-count-eq0 g c =
-    let f = fetch_garbled _ _ _ _ _ _ c.if-not-self.false c.send-count.ensures.sent.exchanged c.send-count.array_long _ c.new-buffer-2.ensures c.if-count-eq0.false (read_is c.send-count.result c.send-count.new.reply c.read.result c.read.ensures.fault ∙ sym c.if-is-ok.ensures.value) in
+    let f = fetch_garbled _ _ _ _ _ _ c.if-not-self.false c.send-count.ensures.sent.exchanged c.send-count.array_long _ c.new_buffer-2.ensures c.if-count-eq0.false (read_is c.send-count.result c.send-count.new.reply c.read.result c.read.ensures.fault ∙ sym c.if-is_ok.ensures.value) in
     record {
       fetched = f;
       continues = λ p m k l. fetch_continues p m k _ _ _ _ _ _ _ (g.L.Line.sound c.args.self.now.line) f l;

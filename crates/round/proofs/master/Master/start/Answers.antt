@@ -9,6 +9,6 @@ returns g c =
       calls = f.calls;
       promise = promised m.means _ c.new.result c.run.result.0 _ _ _ f.runs m.base m.tries c.args.line c.new.ensures.line c.new.ensures.idle f.house f.layers f.faultless;
       within = f.within;
-      other-outcomes = f.other-outcomes;
+      other_outcomes = f.other_outcomes;
       other_entries = f.other_entries;
     }

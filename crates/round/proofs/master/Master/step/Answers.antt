@@ -17,8 +17,8 @@ returns-in-Idle-Pick g c =
 
 pub returns-in-Idle-Release : goal.returns-in-Idle-Release
 returns-in-Idle-Release g c =
-    let f = c.release-idle-after.ensures in
-    let after = c.release-idle-after.result.0 in
+    let f = c.release_idle-after.ensures in
+    let after = c.release_idle-after.result.0 in
     record {
       goes = goes_as g.L.Line.means _ _ c.in-Idle-Release.is-0 after _ _ _ _ _ _ c.in-Idle-Release.is-1 (f.goes _ _);
       within = (omega arith, c.requires);
@@ -41,8 +41,8 @@ returns-in-Picked-Fetch g c =
 
 pub returns-in-Picked-Release : goal.returns-in-Picked-Release
 returns-in-Picked-Release g c =
-    let f = c.release-picked-after.ensures in
-    let after = c.release-picked-after.result.0 in
+    let f = c.release_picked-after.ensures in
+    let after = c.release_picked-after.result.0 in
     record {
       goes = goes_as g.L.Line.means _ _ c.in-Picked-Release.is-0 after _ _ _ _ _ _ c.in-Picked-Release.is-1 (f.goes _ _);
       within = (omega arith, c.requires);

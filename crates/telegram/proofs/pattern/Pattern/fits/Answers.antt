@@ -10,7 +10,7 @@ returns c =
     let k : length p ≡ 8 = search rules in
     let l : length a ≡ 8 = search rules in
     ap₂ ◌&&◌
-    (ap₂ ◌&&◌ (ap₂ ◌&&◌ (ap₂ ◌&&◌ c.fits-digits.ensures c.fits-digits-2.ensures) c.fits-digits-3.ensures) c.fits-digits-4.ensures)
-    (ap₂ ◌&&◌ (ap₂ ◌&&◌ (ap₂ ◌&&◌ c.fits-byte.ensures c.fits-byte-2.ensures) c.fits-byte-3.ensures) c.fits-byte-4.ensures)
+    (ap₂ ◌&&◌ (ap₂ ◌&&◌ (ap₂ ◌&&◌ c.fits_digits.ensures c.fits_digits-2.ensures) c.fits_digits-3.ensures) c.fits_digits-4.ensures)
+    (ap₂ ◌&&◌ (ap₂ ◌&&◌ (ap₂ ◌&&◌ c.fits_byte.ensures c.fits_byte-2.ensures) c.fits_byte-3.ensures) c.fits_byte-4.ensures)
     ∙ fits_bytes p a k l
     ∙ ap (fits p) c.bytes-a.ensures

@@ -7,10 +7,10 @@ pub returns-in-Long : goal.returns-in-Long
 returns-in-Long c =
     let l = c.in-Long in
     let h = ap (λ f. written (parts f)) (sym l.is) in
-    let j = framed_long (written (parts c.args.frame.now)) c.from-long.result l.control l.address l.information l.data.now c.from-long.ensures.fault c.from-long.ensures.parts h in
+    let j = framed_long (written (parts c.args.frame.now)) c.from_long.result l.control l.address l.information l.data.now c.from_long.ensures.fault c.from_long.ensures.parts h in
     record { fault = j.told; reads = j.reads }
 
-pub returns-in-default : goal.returns-in-default
-returns-in-default c =
-    let j = framed_other c.args.frame.now c.in-default.not-Long in
+pub returns-in_default : goal.returns-in_default
+returns-in_default c =
+    let j = framed_other c.args.frame.now c.in_default.not-Long in
     record { fault = j.told; reads = j.reads }

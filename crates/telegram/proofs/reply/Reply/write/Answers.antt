@@ -9,12 +9,12 @@ returns c =
     let t = c.args.self.now in
     let body : List ℕ = c.args.body.now in
     let a : List ℕ = c.bytes.result in
-    let s : List ℕ = c.to-le-bytes.result in
+    let s : List ℕ = c.to_le_bytes.result in
     let end : ℕ = c.append-end.result in
     let d : List ℕ = c.append-end.new.data in
     let small : t.signature < 65536 = search rules in
     let high : t.signature / 256 % 256 ≡ t.signature / 256 = omega arith in
-    let s_is : s ≡ (t.signature % 256) ∷ (t.signature / 256) ∷ [] = c.to-le-bytes.ensures ∙ ap (λ x. (t.signature % 256) ∷ x ∷ []) high in
+    let s_is : s ≡ (t.signature % 256) ∷ (t.signature / 256) ∷ [] = c.to_le_bytes.ensures ∙ ap (λ x. (t.signature % 256) ∷ x ∷ []) high in
     let whole : end - 0 ≡ end = omega arith in
     let d_is : take (end - 0) d ≡ ((a ++ t.access ∷ t.status ∷ []) ++ s) ++ body =
     ap (λ n. take n d) whole ∙ c.append-end.ensures.front ∙ ap (λ x. x ++ body) (c.append-start.ensures.front ∙ ap (λ x. x ++ s) (c.append-signature.ensures.front ∙ ap (λ x. x ++ t.access ∷ t.status ∷ []) c.append-access.ensures.front)) in

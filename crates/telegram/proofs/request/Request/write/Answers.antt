@@ -9,9 +9,9 @@ pub returns : goal.returns
 unfolding request_bytes
 returns c =
     let f = c.frame-frame.ensures in
-    let w = c.write-frame.ensures in
+    let w = c.write_frame.ensures in
     record {
       buffer = w.buffer ∙ ap (λ p. filled (written p)) f.frame;
       count = w.count ∙ ap (λ p. length (written p)) f.frame;
-      understood = sent c.args.self.now (parts c.frame-frame.result) c.write-frame.result c.write-frame.new.buffer f.understood w.buffer w.count;
+      understood = sent c.args.self.now (parts c.frame-frame.result) c.write_frame.result c.write_frame.new.buffer f.understood w.buffer w.count;
     }

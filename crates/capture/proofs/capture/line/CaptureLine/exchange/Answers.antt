@@ -6,8 +6,8 @@ use Rattle.capture.specs.Meaning.{faultless, recorded}
 use Rattle.capture.specs.Recordings.{telegrams_of}
 use Rattle.capture.proofs.capture.line.CaptureLine.exchange.Goals as goal
 
-pub invariant-of-self : goal.invariant-of-self
-invariant-of-self c =
+pub invariant_of-self : goal.invariant_of-self
+invariant_of-self c =
     let x = c.args.self.now in
     let w = c.answer.ensures in (
       ∣ exchange_sound (sound_out (meaning x) x.sound) (w.exchanged (meaning x) refl).exchange ∣₁,
