@@ -19,8 +19,8 @@ pub loop-i-preserved : goal.loop-i-preserved
 loop-i-preserved c =
     let l = c.loop-i in
     elim c.match-read_character.branch [
-      | in-Open w ↦ convert_open c.args.text.now l.text l.i l.count l.high (omega arith) l.invariant _ _ _ _ w.in-Open.ensures.value w.in-Open.ensures.small w.text-is w.count_is w.high-is
-      | in-Byte w ↦ convert_byte c.args.text.now l.text l.i l.count l.high (omega arith) l.invariant _ _ _ _ w.in-Byte.ensures.value w.text-is w.count_is w.high-is
+      | in-Open w ↦ convert_open c.args.text.now l.text l.i l.count l.high (omega arith) l.invariant _ _ _ _ w.in-Open.ensures.value w.in-Open.ensures.small w.text-is w.count-is w.high-is
+      | in-Byte w ↦ convert_byte c.args.text.now l.text l.i l.count l.high (omega arith) l.invariant _ _ _ _ w.in-Byte.ensures.value w.text-is w.count-is w.high-is
     ]
 
 pub returns : goal.returns

@@ -26,6 +26,6 @@ meaning_in-requires c =
 pub returns : goal.returns
 returns c =
     record {
-      value = ap Some c.row_meaning.ensures ∙ by_row c.args.vif (Some c.in_ok-row.row) c.if-vif-eq-SECOND_EXTENSION.false c.if-vif-eq-FIRST_EXTENSION.false c.in_ok-row.ensures;
+      value = ap Some c.meaning_in.ensures ∙ by_row c.args.vif (Some c.in_ok-row.row) c.if-vif-eq-SECOND_EXTENSION.false c.if-vif-eq-FIRST_EXTENSION.false c.in_ok-row.ensures;
       table = table_stands;
     }
