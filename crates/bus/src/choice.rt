@@ -30,7 +30,7 @@ impl Choice {
 
 // Whether the pattern fits the meter in a row.
 fn is_fit<T: Table>(table: &T, pattern: &Pattern, row: usize) -> bool
-    ensures { MatchOption (slice_get (meters table.now) row) (result ≡ false) (λ m. result ≡ fits pattern.now.bytes m.address) }
+    ensures { MatchOption (slice_get (T.meters table.now) row) (result ≡ false) (λ m. result ≡ fits pattern.now.bytes m.address) }
 {
     match table.address(row) {
         Some(address) => pattern.fits(&address),
@@ -40,7 +40,7 @@ fn is_fit<T: Table>(table: &T, pattern: &Pattern, row: usize) -> bool
 
 // The meters that the pattern fits.
 fn choose<T: Table>(table: &T, pattern: &Pattern) -> Choice
-    ensures { Tells (meters table.now) (fitting (Some pattern.now) (meters table.now)) result }
+    ensures { Tells (T.meters table.now) (fitting (Some pattern.now) (T.meters table.now)) result }
 {
     let mut choice = Choice::Nobody;
     for row in 0..table.count() {
@@ -53,7 +53,7 @@ fn choose<T: Table>(table: &T, pattern: &Pattern) -> Choice
 
 // The meters that are selected.
 pub(crate) fn chosen<T: Table>(table: &T, selection: &Option<Pattern>) -> Choice
-    ensures { Tells (meters table.now) (fitting selection.now (meters table.now)) result }
+    ensures { Tells (T.meters table.now) (fitting selection.now (T.meters table.now)) result }
 {
     match selection {
         None => Choice::Nobody,

@@ -54,8 +54,8 @@ const GARBLE: [u8; 1] = [0x00];
 // Fills the buffer with the due reply, or, where several meters answer at once, with the garble, and then 00.
 // Answers the count of the reply's bytes.
 pub(crate) fn deliver<T: Table>(table: &T, due: DueReply, reply: &mut Buffer) -> usize
-    ensures buffer { reply.new ≡ filled (arriving (due_from (meters table.now) due)) }
-    ensures count { result ≡ length (arriving (due_from (meters table.now) due)) }
+    ensures buffer { reply.new ≡ filled (arriving (due_from (T.meters table.now) due)) }
+    ensures count { result ≡ length (arriving (due_from (T.meters table.now) due)) }
 {
     match due {
         DueReply::Silence => fill(reply, &[]),

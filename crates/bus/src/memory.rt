@@ -58,7 +58,7 @@ impl Memory {
 
     // Hears a request, or bytes that are none.
     pub(crate) fn hear<T: Table>(&mut self, table: &T, heard: &Option<Request>)
-        ensures { remembering (meters table.now) self.new ≡ hearing heard.now (remembering (meters table.now) self.old) }
+        ensures { remembering (T.meters table.now) self.new ≡ hearing heard.now (remembering (T.meters table.now) self.old) }
     {
         if let Some(request) = heard {
             let only = only_count(table, &self.selection);
@@ -78,7 +78,7 @@ impl Memory {
 
     // The reply that is due once a request was heard.
     pub(crate) fn due<T: Table>(&self, table: &T, heard: &Option<Request>) -> DueReply
-        ensures { due_from (meters table.now) result ≡ due_after heard.now (remembering (meters table.now) self.now) }
+        ensures { due_from (T.meters table.now) result ≡ due_after heard.now (remembering (T.meters table.now) self.now) }
     {
         let Some(request) = heard else {
             return DueReply::Silence;
@@ -95,7 +95,7 @@ impl Memory {
 
 // The number of telegrams of the only selected meter, where there is exactly one.
 fn only_count<T: Table>(table: &T, selection: &Option<Pattern>) -> Option<usize>
-    ensures has { OnlyHas (fitting selection.now (meters table.now)) result }
+    ensures has { OnlyHas (fitting selection.now (T.meters table.now)) result }
     ensures some { Positive result }
 {
     match chosen(table, selection) {

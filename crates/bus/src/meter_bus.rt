@@ -21,7 +21,7 @@ impl<T: Table> MeterBus<T> {
     // Meters that have heard nothing yet.
     pub fn new(table: T) -> MeterBus<T>
         ensures table { result.table ≡ table }
-        ensures bus { bus_of meters result ≡ at_rest (meters table) }
+        ensures bus { bus_of T.meters result ≡ at_rest (T.meters table) }
     {
         let memory = Memory {
             selection: None,
@@ -32,7 +32,7 @@ impl<T: Table> MeterBus<T> {
 
     // How many meters there are.
     pub fn count(&self) -> usize
-        ensures { result ≡ length (meters self.now.table) }
+        ensures { result ≡ length (T.meters self.now.table) }
     {
         self.table.count()
     }
@@ -40,8 +40,8 @@ impl<T: Table> MeterBus<T> {
     // Hears a request. The reply that is due then.
     fn hear(&mut self, request: &[u8]) -> DueReply
         ensures table { self.new.table ≡ self.old.table }
-        ensures bus { bus_of meters self.new ≡ heard request.now (bus_of meters self.old) }
-        ensures due { due_from (meters self.new.table) result ≡ due_to request.now (bus_of meters self.old) }
+        ensures bus { bus_of T.meters self.new ≡ heard request.now (bus_of T.meters self.old) }
+        ensures due { due_from (T.meters self.new.table) result ≡ due_to request.now (bus_of T.meters self.old) }
     {
         let heard = Request::read(request);
         self.memory.hear(&self.table, &heard);
@@ -52,10 +52,10 @@ impl<T: Table> MeterBus<T> {
     // of its bytes. Several replies at once arrive as the byte 00.
     pub fn answer(&mut self, request: &[u8], reply: &mut Buffer) -> usize
         ensures table { self.new.table ≡ self.old.table }
-        ensures bus { bus_of meters self.new ≡ heard request.now (bus_of meters self.old) }
-        ensures buffer { reply.new ≡ filled (arriving (due_to request.now (bus_of meters self.old))) }
-        ensures count { result ≡ length (arriving (due_to request.now (bus_of meters self.old))) }
-        ensures exchanged { (s : State) → s.bus ≡ bus_of meters self.old → Exchanged s request.now result reply.new (cleared s (bus_of meters self.new)) }
+        ensures bus { bus_of T.meters self.new ≡ heard request.now (bus_of T.meters self.old) }
+        ensures buffer { reply.new ≡ filled (arriving (due_to request.now (bus_of T.meters self.old))) }
+        ensures count { result ≡ length (arriving (due_to request.now (bus_of T.meters self.old))) }
+        ensures exchanged { (s : State) → s.bus ≡ bus_of T.meters self.old → Exchanged s request.now result reply.new (cleared s (bus_of T.meters self.new)) }
     {
         let due = self.hear(request);
         deliver(&self.table, due, reply)
@@ -73,10 +73,10 @@ impl<T: Table> MeterBus<T> {
     // The request is heard, and the reply is lost on its way back: the buffer is all 00.
     pub fn lose_reply(&mut self, request: &[u8], reply: &mut Buffer) -> usize
         ensures table { self.new.table ≡ self.old.table }
-        ensures bus { bus_of meters self.new ≡ heard request.now (bus_of meters self.old) }
+        ensures bus { bus_of T.meters self.new ≡ heard request.now (bus_of T.meters self.old) }
         ensures buffer { reply.new ≡ filled [] }
         ensures count { result ≡ 0 }
-        ensures exchanged { (s : State) → s.bus ≡ bus_of meters self.old → s.streak < s.run → Exchanged s request.now result reply.new (faulted s (bus_of meters self.new)) }
+        ensures exchanged { (s : State) → s.bus ≡ bus_of T.meters self.old → s.streak < s.run → Exchanged s request.now result reply.new (faulted s (bus_of T.meters self.new)) }
     {
         self.memory.hear(&self.table, &Request::read(request));
         deliver(&self.table, DueReply::Silence, reply)
@@ -85,10 +85,10 @@ impl<T: Table> MeterBus<T> {
     // The request is heard, and the reply is damaged on its way back: the byte 00 arrives in its place.
     pub fn damage_reply(&mut self, request: &[u8], reply: &mut Buffer) -> usize
         ensures table { self.new.table ≡ self.old.table }
-        ensures bus { bus_of meters self.new ≡ heard request.now (bus_of meters self.old) }
-        ensures buffer { reply.new ≡ filled (damaged (due_to request.now (bus_of meters self.old))) }
-        ensures count { result ≡ length (damaged (due_to request.now (bus_of meters self.old))) }
-        ensures exchanged { (s : State) → s.bus ≡ bus_of meters self.old → s.streak < s.run → Exchanged s request.now result reply.new (faulted s (bus_of meters self.new)) }
+        ensures bus { bus_of T.meters self.new ≡ heard request.now (bus_of T.meters self.old) }
+        ensures buffer { reply.new ≡ filled (damaged (due_to request.now (bus_of T.meters self.old))) }
+        ensures count { result ≡ length (damaged (due_to request.now (bus_of T.meters self.old))) }
+        ensures exchanged { (s : State) → s.bus ≡ bus_of T.meters self.old → s.streak < s.run → Exchanged s request.now result reply.new (faulted s (bus_of T.meters self.new)) }
     {
         let due = self.hear(request);
         damage(due, reply)

@@ -10,9 +10,9 @@ use telegram::request::Request;
 // Sends a request in one exchange, and fills the buffer with the reply and then 00.
 // Answers the count of the reply's bytes. Where the run below all layers is less than their tries, no run shows.
 pub fn send<L: Line>(line: &mut L, request: &Request, reply: &mut Buffer) -> usize
-    ensures sent { Sent (means line.old) request.now result reply.new (means line.new) }
-    ensures layers { tries line.new ≡ tries line.old }
-    ensures shown { (base line.old).run < tries line.old → (means line.old).run ≡ 0 }
+    ensures sent { Sent (L.means line.old) request.now result reply.new (L.means line.new) }
+    ensures layers { L.tries line.new ≡ L.tries line.old }
+    ensures shown { (L.base line.old).run < L.tries line.old → (L.means line.old).run ≡ 0 }
     ensures once { HeardOnce }
 {
     let mut bytes = new_buffer();

@@ -40,9 +40,9 @@ pub struct Picked<L> {
 
 // Sends the release.
 fn send_release<L: Line>(line: &mut L)
-    ensures sent { Releases (means line.old) (means line.new) }
-    ensures clear { Clears (means line.old) (means line.new) }
-    ensures layers { tries line.new ≡ tries line.old }
+    ensures sent { Releases (L.means line.old) (L.means line.new) }
+    ensures clear { Clears (L.means line.old) (L.means line.new) }
+    ensures layers { L.tries line.new ≡ L.tries line.old }
 {
     let mut buffer = new_buffer();
     let _count = send(line, &Request::Release, &mut buffer);
@@ -52,7 +52,7 @@ impl<L: Line> Idle<L> {
     // A master of the line. Where the run of the line below all layers is less than their tries, the line has no faults.
     pub fn new(line: L) -> Idle<L>
         ensures line { result.line ≡ line }
-        ensures steady { (base result.line).run < tries result.line → (means result.line).run ≡ 0 }
+        ensures steady { (L.base result.line).run < L.tries result.line → (L.means result.line).run ≡ 0 }
     {
         Idle { line }
     }
@@ -67,13 +67,13 @@ impl<L: Line> Idle<L> {
 
     // Lists the meters of the line, and sends the release.
     pub fn search(&mut self, list: &mut FixedList<Entry>) -> Result<Summary, SearchFault>
-        ensures searched { Searched 8 (means self.old.line) (length (all_places list.old)) (map entry_of (entries_of list.new)) (summary_of result).selections (is_full result) (means self.new.line) }
-        ensures finds { Finds 8 (means self.old.line).bus.meters (means self.old.line).run (length (all_places list.old)) (map entry_of (entries_of list.new)) (summary_of result).selections (is_full result) }
-        ensures clear { Clears (means self.old.line) (means self.new.line) }
+        ensures searched { Searched 8 (L.means self.old.line) (length (all_places list.old)) (map entry_of (entries_of list.new)) (summary_of result).selections (is_full result) (L.means self.new.line) }
+        ensures finds { Finds 8 (L.means self.old.line).bus.meters (L.means self.old.line).run (length (all_places list.old)) (map entry_of (entries_of list.new)) (summary_of result).selections (is_full result) }
+        ensures clear { Clears (L.means self.old.line) (L.means self.new.line) }
         ensures entries { (summary_of result).entries ≡ length (entries_of list.new) }
         ensures filled { Filled (all_places list.old) list.new }
         ensures lender { lender list.new ≡ lender list.old }
-        ensures layers { tries self.new.line ≡ tries self.old.line }
+        ensures layers { L.tries self.new.line ≡ L.tries self.old.line }
     {
         let end = walk(&mut self.line, list);
         send_release(&mut self.line);
@@ -90,9 +90,9 @@ impl<L: Line> Idle<L> {
 
     // Sends the address as a pattern, and notes whether any reply came.
     pub fn pick(self, address: Address) -> Picked<L>
-        ensures sent { Selects (means self.line) (address_bytes address) result.answered result.bit (means result.line) }
-        ensures starts { (m : Meter) → fitting (Some (pattern_of (address_bytes address))) (means self.line).bus.meters ≡ m ∷ [] → Starts (means self.line) (address_bytes address) m result.answered result.bit (means result.line) }
-        ensures layers { tries result.line ≡ tries self.line }
+        ensures sent { Selects (L.means self.line) (address_bytes address) result.answered result.bit (L.means result.line) }
+        ensures starts { (m : Meter) → fitting (Some (pattern_of (address_bytes address))) (L.means self.line).bus.meters ≡ m ∷ [] → Starts (L.means self.line) (address_bytes address) m result.answered result.bit (L.means result.line) }
+        ensures layers { L.tries result.line ≡ L.tries self.line }
     {
         let Idle { mut line } = self;
         let mut buffer = new_buffer();
@@ -109,9 +109,9 @@ impl<L: Line> Idle<L> {
 
     // Sends the release.
     pub fn release(&mut self)
-        ensures sent { Releases (means self.old.line) (means self.new.line) }
-        ensures clear { Clears (means self.old.line) (means self.new.line) }
-        ensures layers { tries self.new.line ≡ tries self.old.line }
+        ensures sent { Releases (L.means self.old.line) (L.means self.new.line) }
+        ensures clear { Clears (L.means self.old.line) (L.means self.new.line) }
+        ensures layers { L.tries self.new.line ≡ L.tries self.old.line }
     {
         send_release(&mut self.line);
     }
@@ -140,10 +140,10 @@ impl<L: Line> Picked<L> {
     // Fetches the next telegram of the picked meter into the buffer: the count of its bytes. A refusal leaves the
     // buffer all 00, and the bit as it is.
     pub fn fetch(&mut self, buffer: &mut Buffer) -> Result<usize, FetchFault>
-        ensures fetched { Fetches (means self.old.line) self.old.answered self.old.bit result buffer.new (means self.new.line) self.new.bit }
-        ensures continues { (pattern : List ℕ) (m : Meter) (k : ℕ) → Linked pattern m k self.old.answered self.old.bit (means self.old.line) → Continues (means self.old.line) pattern m k self.old.answered result buffer.new (means self.new.line) self.new.bit }
+        ensures fetched { Fetches (L.means self.old.line) self.old.answered self.old.bit result buffer.new (L.means self.new.line) self.new.bit }
+        ensures continues { (pattern : List ℕ) (m : Meter) (k : ℕ) → Linked pattern m k self.old.answered self.old.bit (L.means self.old.line) → Continues (L.means self.old.line) pattern m k self.old.answered result buffer.new (L.means self.new.line) self.new.bit }
         ensures answered { self.new.answered ≡ self.old.answered }
-        ensures layers { tries self.new.line ≡ tries self.old.line }
+        ensures layers { L.tries self.new.line ≡ L.tries self.old.line }
     {
         if !self.answered {
             *buffer = new_buffer();
@@ -164,9 +164,9 @@ impl<L: Line> Picked<L> {
 
     // Sends the release.
     pub fn release(self) -> Idle<L>
-        ensures sent { Releases (means self.line) (means result.line) }
-        ensures clear { Clears (means self.line) (means result.line) }
-        ensures layers { tries result.line ≡ tries self.line }
+        ensures sent { Releases (L.means self.line) (L.means result.line) }
+        ensures clear { Clears (L.means self.line) (L.means result.line) }
+        ensures layers { L.tries result.line ≡ L.tries self.line }
     {
         let Picked {
             mut line,

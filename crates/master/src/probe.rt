@@ -14,8 +14,8 @@ use telegram::request::Request;
 
 // Selects the beginning, and after any reply fetches with bit 1.
 pub(crate) fn probe<L: Line>(line: &mut L, beginning: &Beginning) -> Verdict
-    ensures probed { Probed (means line.old) (digits_of beginning.now) (verdict_of result) (means line.new) }
-    ensures layers { tries line.new ≡ tries line.old }
+    ensures probed { Probed (L.means line.old) (digits_of beginning.now) (verdict_of result) (L.means line.new) }
+    ensures layers { L.tries line.new ≡ L.tries line.old }
 {
     let mut buffer = new_buffer();
     let selection = Request::Selection(beginning.pattern());

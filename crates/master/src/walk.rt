@@ -36,10 +36,10 @@ fn add(list: &mut FixedList<Entry>, entry: Option<Entry>) -> Result<(), Full>
 
 // Probes the beginnings, first the empty one, and lists what is found.
 pub(crate) fn walk<L: Line>(line: &mut L, list: &mut FixedList<Entry>) -> WalkEnd
-    ensures walked { Walked 8 (means line.old) (length (all_places list.old)) (map entry_of (entries_of list.new)) result.selections result.full (means line.new) }
+    ensures walked { Walked 8 (L.means line.old) (length (all_places list.old)) (map entry_of (entries_of list.new)) result.selections result.full (L.means line.new) }
     ensures filled { Filled (all_places list.old) list.new }
     ensures lender { lender list.new ≡ lender list.old }
-    ensures layers { tries line.new ≡ tries line.old }
+    ensures layers { L.tries line.new ≡ L.tries line.old }
 {
     list.clear();
     let mut at = Beginning::first();

@@ -15,7 +15,7 @@ impl<L: Line> Master<L> {
     // An unused master.
     fn new(line: L) -> Master<L>
         ensures line { line_of result ≡ line }
-        ensures idle { Holds means result Mode.idle }
+        ensures idle { Holds L.means result Mode.idle }
     {
         Master::Idle(Idle::new(line))
     }
@@ -34,11 +34,11 @@ impl<L: Line> Master<L> {
     // Entries go into the places after those used; answers how many are used then.
     fn step(self, call: Call, places: &mut [Entry], used: usize) -> (Master<L>, Outcome, usize)
         requires { used ≤ length places.old }
-        ensures goes { Goes means (length places.old) self call result.1 result.0 (take used places.old) (take result.2 places.new) }
+        ensures goes { Goes L.means (length places.old) self call result.1 result.0 (take used places.old) (take result.2 places.new) }
         ensures within { (used ≤ result.2) × (result.2 ≤ length places.old) }
         ensures untouched { drop result.2 places.new ≡ drop result.2 places.old }
-        ensures house { SameHouse means self result.0 }
-        ensures layers { tries (line_of result.0) ≡ tries (line_of self) }
+        ensures house { SameHouse L.means self result.0 }
+        ensures layers { L.tries (line_of result.0) ≡ L.tries (line_of self) }
     {
         match (self, call) {
             (Master::Idle(idle), Call::Search) => search(idle, places, used),
@@ -81,15 +81,15 @@ impl<L: Line> Master<L> {
         entries: &mut [Entry],
     ) -> (Master<L>, Progress)
         ensures calls { result.1.calls ≡ min (length calls.now) (length outcomes.old) }
-        ensures runs { Runs means (length entries.old) self (take result.1.calls calls.now) (take result.1.calls outcomes.new) result.0 (take result.1.entries entries.new) }
-        ensures goes_on { Goes_on means self (take result.1.calls calls.now) (take result.1.calls outcomes.new) result.0 }
-        ensures lists { (mode : Mode) → Holds means self mode → SearchesList (house_of (means (line_of self))) (length entries.old) (take result.1.calls calls.now) (take result.1.calls outcomes.new) (take result.1.entries entries.new) }
+        ensures runs { Runs L.means (length entries.old) self (take result.1.calls calls.now) (take result.1.calls outcomes.new) result.0 (take result.1.entries entries.new) }
+        ensures goes_on { Goes_on L.means self (take result.1.calls calls.now) (take result.1.calls outcomes.new) result.0 }
+        ensures lists { (mode : Mode) → Holds L.means self mode → SearchesList (house_of (L.means (line_of self))) (length entries.old) (take result.1.calls calls.now) (take result.1.calls outcomes.new) (take result.1.entries entries.new) }
         ensures within { result.1.entries ≤ length entries.old }
         ensures other_outcomes { drop result.1.calls outcomes.new ≡ drop result.1.calls outcomes.old }
         ensures other_entries { drop result.1.entries entries.new ≡ drop result.1.entries entries.old }
-        ensures house { SameHouse means self result.0 }
-        ensures layers { tries (line_of result.0) ≡ tries (line_of self) }
-        ensures faultless { (base (line_of self)).run < tries (line_of self) → (means (line_of self)).run ≡ 0 }
+        ensures house { SameHouse L.means self result.0 }
+        ensures layers { L.tries (line_of result.0) ≡ L.tries (line_of self) }
+        ensures faultless { (L.base (line_of self)).run < L.tries (line_of self) → (L.means (line_of self)).run ≡ 0 }
     {
         let count = calls.len().min(outcomes.len());
         let mut master = self;
@@ -115,7 +115,7 @@ impl<L: Line> Master<L> {
         entries: &mut [Entry],
     ) -> (Master<L>, Progress)
         ensures calls { result.1.calls ≡ min (length calls.now) (length outcomes.old) }
-        ensures promise { Promise means base tries line (length entries.old) (take result.1.calls calls.now) (take result.1.calls outcomes.new) result.0 (take result.1.entries entries.new) }
+        ensures promise { Promise L.means L.base L.tries line (length entries.old) (take result.1.calls calls.now) (take result.1.calls outcomes.new) result.0 (take result.1.entries entries.new) }
         ensures within { result.1.entries ≤ length entries.old }
         ensures other_outcomes { drop result.1.calls outcomes.new ≡ drop result.1.calls outcomes.old }
         ensures other_entries { drop result.1.entries entries.new ≡ drop result.1.entries entries.old }

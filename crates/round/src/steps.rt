@@ -19,9 +19,9 @@ use search::entry::Entry;
 use telegram::address::Address;
 
 pub(crate) fn pick<L: Line>(idle: Idle<L>, address: Address) -> (Master<L>, Outcome)
-    ensures goes { (room : ℕ) (es : List Listed) → Goes means room (Master.Idle idle) (Call.Pick address) result.1 result.0 es es }
-    ensures house { SameHouse means (Master.Idle idle) result.0 }
-    ensures layers { tries (line_of result.0) ≡ tries idle.line }
+    ensures goes { (room : ℕ) (es : List Listed) → Goes L.means room (Master.Idle idle) (Call.Pick address) result.1 result.0 es es }
+    ensures house { SameHouse L.means (Master.Idle idle) result.0 }
+    ensures layers { L.tries (line_of result.0) ≡ L.tries idle.line }
 {
     let picked = idle.pick(address);
     let answered = picked.is_answered();
@@ -29,9 +29,9 @@ pub(crate) fn pick<L: Line>(idle: Idle<L>, address: Address) -> (Master<L>, Outc
 }
 
 pub(crate) fn fetch<L: Line>(mut picked: Picked<L>) -> (Master<L>, Outcome)
-    ensures goes { (room : ℕ) (es : List Listed) → Goes means room (Master.Picked picked) Call.Fetch result.1 result.0 es es }
-    ensures house { SameHouse means (Master.Picked picked) result.0 }
-    ensures layers { tries (line_of result.0) ≡ tries picked.line }
+    ensures goes { (room : ℕ) (es : List Listed) → Goes L.means room (Master.Picked picked) Call.Fetch result.1 result.0 es es }
+    ensures house { SameHouse L.means (Master.Picked picked) result.0 }
+    ensures layers { L.tries (line_of result.0) ≡ L.tries picked.line }
 {
     let mut buffer = new_buffer();
     match picked.fetch(&mut buffer) {
@@ -44,18 +44,18 @@ pub(crate) fn fetch<L: Line>(mut picked: Picked<L>) -> (Master<L>, Outcome)
 }
 
 pub(crate) fn release_idle<L: Line>(mut idle: Idle<L>) -> (Master<L>, Outcome)
-    ensures goes { (room : ℕ) (es : List Listed) → Goes means room (Master.Idle idle) Call.Release result.1 result.0 es es }
-    ensures house { SameHouse means (Master.Idle idle) result.0 }
-    ensures layers { tries (line_of result.0) ≡ tries idle.line }
+    ensures goes { (room : ℕ) (es : List Listed) → Goes L.means room (Master.Idle idle) Call.Release result.1 result.0 es es }
+    ensures house { SameHouse L.means (Master.Idle idle) result.0 }
+    ensures layers { L.tries (line_of result.0) ≡ L.tries idle.line }
 {
     idle.release();
     (Master::Idle(idle), Outcome::Released)
 }
 
 pub(crate) fn release_picked<L: Line>(picked: Picked<L>) -> (Master<L>, Outcome)
-    ensures goes { (room : ℕ) (es : List Listed) → Goes means room (Master.Picked picked) Call.Release result.1 result.0 es es }
-    ensures house { SameHouse means (Master.Picked picked) result.0 }
-    ensures layers { tries (line_of result.0) ≡ tries picked.line }
+    ensures goes { (room : ℕ) (es : List Listed) → Goes L.means room (Master.Picked picked) Call.Release result.1 result.0 es es }
+    ensures house { SameHouse L.means (Master.Picked picked) result.0 }
+    ensures layers { L.tries (line_of result.0) ≡ L.tries picked.line }
 {
     (Master::Idle(picked.release()), Outcome::Released)
 }
@@ -73,12 +73,12 @@ fn told(res: Result<Summary, SearchFault>) -> (Summary, bool)
 
 // A search with all these places.
 fn search_into<L: Line>(idle: &mut Idle<L>, places: &mut [Entry]) -> (Summary, bool)
-    ensures searched { Searched 8 (means idle.old.line) (length places.old) (map entry_of (take result.0.entries places.new)) result.0.selections result.1 (means idle.new.line) }
-    ensures finds { Finds 8 (means idle.old.line).bus.meters (means idle.old.line).run (length places.old) (map entry_of (take result.0.entries places.new)) result.0.selections result.1 }
-    ensures clear { Clears (means idle.old.line) (means idle.new.line) }
+    ensures searched { Searched 8 (L.means idle.old.line) (length places.old) (map entry_of (take result.0.entries places.new)) result.0.selections result.1 (L.means idle.new.line) }
+    ensures finds { Finds 8 (L.means idle.old.line).bus.meters (L.means idle.old.line).run (length places.old) (map entry_of (take result.0.entries places.new)) result.0.selections result.1 }
+    ensures clear { Clears (L.means idle.old.line) (L.means idle.new.line) }
     ensures within { result.0.entries ≤ length places.old }
     ensures untouched { drop result.0.entries places.new ≡ drop result.0.entries places.old }
-    ensures layers { tries idle.new.line ≡ tries idle.old.line }
+    ensures layers { L.tries idle.new.line ≡ L.tries idle.old.line }
 {
     let mut list = FixedList::new(places);
     told(idle.search(&mut list))
@@ -91,11 +91,11 @@ pub(crate) fn search<L: Line>(
     used: usize,
 ) -> (Master<L>, Outcome, usize)
     requires { used ≤ length places.old }
-    ensures goes { Goes means (length places.old) (Master.Idle idle) Call.Search result.1 result.0 (take used places.old) (take result.2 places.new) }
+    ensures goes { Goes L.means (length places.old) (Master.Idle idle) Call.Search result.1 result.0 (take used places.old) (take result.2 places.new) }
     ensures within { (used ≤ result.2) × (result.2 ≤ length places.old) }
     ensures untouched { drop result.2 places.new ≡ drop result.2 places.old }
-    ensures house { SameHouse means (Master.Idle idle) result.0 }
-    ensures layers { tries (line_of result.0) ≡ tries idle.line }
+    ensures house { SameHouse L.means (Master.Idle idle) result.0 }
+    ensures layers { L.tries (line_of result.0) ≡ L.tries idle.line }
 {
     let end = places.len();
     let (summary, full) = search_into(&mut idle, &mut places[used..end]);
