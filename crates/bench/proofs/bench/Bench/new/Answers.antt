@@ -31,7 +31,7 @@ invariant_of-new c =
     let area = vec_items c.args.area in
     let codes = vec_items c.args.codes in
     let none = refusal_at rows area codes {o = None} c.as_slice.ensures.value c.as_slice-2.ensures.value c.as_slice-3.ensures.value c.in_ok-check.ensures in
-    ((accepted rows area codes none).fitting, tt)
+    record { fitting = (accepted rows area codes none).fitting }
 
 pub invariant_of-faults : goal.invariant_of-faults
 invariant_of-faults c =
@@ -39,7 +39,7 @@ invariant_of-faults c =
     let area = vec_items c.args.area in
     let codes = vec_items c.args.codes in
     let none = refusal_at rows area codes {o = None} c.as_slice.ensures.value c.as_slice-2.ensures.value c.as_slice-3.ensures.value c.in_ok-check.ensures in
-    (omega (arith, (accepted rows area codes none).few_codes, c.args.codes.ok.0), tt)
+    record { few = omega (arith, (accepted rows area codes none).few_codes, c.args.codes.ok.0) }
 
 pub invariant_of-result : goal.invariant_of-result
 invariant_of-result c =
@@ -48,7 +48,7 @@ invariant_of-result c =
     let codes = vec_items c.args.codes in
     let none = refusal_at rows area codes {o = None} c.as_slice.ensures.value c.as_slice-2.ensures.value c.as_slice-3.ensures.value c.in_ok-check.ensures in
     let means = new_means c.new-bus.result rows area codes c.new-bus.ensures.bus in
-    (∣ subst Sound (sym means) (new_sound rows area codes (accepted rows area codes none).fitting) ∣₁, tt)
+    record { sound = ∣ subst Sound (sym means) (new_sound rows area codes (accepted rows area codes none).fitting) ∣₁ }
 
 pub returns : goal.returns
 returns c =

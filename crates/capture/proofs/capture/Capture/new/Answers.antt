@@ -25,7 +25,7 @@ returns-in_err-index c =
 pub invariant_of-recording : goal.invariant_of-recording
 invariant_of-recording c =
     let h = read_of (vec_items c.in_ok-index.index.rows) c.as_slice.ensures.value c.in_ok-index.ensures.0 in
-    (∣ h.stocked ∣₁, tt)
+    record { stocked = ∣ h.stocked ∣₁ }
 
 pub invariant_of-result : goal.invariant_of-result
 invariant_of-result c =
@@ -35,10 +35,7 @@ invariant_of-result c =
     let ms = meters_of bytes rows in
     let h = read_of rows c.as_slice.ensures.value c.in_ok-index.ensures.0 in
     let e = c.new-bus.ensures.bus in
-    let count : List ℕ → ℕ = λ b. length (telegrams_of (meters_of b rows)) in (
-      ∣ bus_sound bytes ms h x e ∣₁,
-      (c.in_ok-index.ensures.1 ∙ ap count c.as_slice.ensures.value ∙ ap (λ l. length (telegrams_of l)) (sym (meters_are bytes ms h x e)), tt),
-    )
+    let count : List ℕ → ℕ = λ b. length (telegrams_of (meters_of b rows)) in record { sound = ∣ bus_sound bytes ms h x e ∣₁; counted = c.in_ok-index.ensures.1 ∙ ap count c.as_slice.ensures.value ∙ ap (λ l. length (telegrams_of l)) (sym (meters_are bytes ms h x e)) }
 
 pub returns : goal.returns
 returns c =

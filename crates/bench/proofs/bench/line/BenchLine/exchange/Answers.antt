@@ -11,27 +11,27 @@ invariant_of-self c =
     let b = c.args.self.now in
     let e = c.in-Clean.ensures in
     let x = clean_exchange b.faults c.next.new.self e.codes e.position b.bus c.answer.new.self c.args.request.now c.answer.new.reply c.answer.result e.code (c.answer.ensures.exchanged (meaning b) refl) in
-    (∣ exchange_sound (sound_out (meaning b) b.sound) x.exchange ∣₁, tt)
+    record { sound = ∣ exchange_sound (sound_out (meaning b) b.sound) x.exchange ∣₁ }
 
 pub invariant_of-self-in-LostOut : goal.invariant_of-self-in-LostOut
 invariant_of-self-in-LostOut c =
     let b = c.args.self.now in
     let e = c.in-LostOut.ensures in
-    (∣ exchange_sound (sound_out (meaning b) b.sound) (unheard b.faults c.next.new.self e.codes e.position b.bus c.args.request.now e.code) ∣₁, tt)
+    record { sound = ∣ exchange_sound (sound_out (meaning b) b.sound) (unheard b.faults c.next.new.self e.codes e.position b.bus c.args.request.now e.code) ∣₁ }
 
 pub invariant_of-self-in-LostBack : goal.invariant_of-self-in-LostBack
 invariant_of-self-in-LostBack c =
     let b = c.args.self.now in
     let e = c.in-LostBack.ensures in
     let x = faulty_exchange b.faults c.next.new.self e.codes e.position b.bus c.lose_reply.new.self c.args.request.now c.lose_reply.new.reply c.lose_reply.result LostBack tt e.code (c.lose_reply.ensures.exchanged (meaning b) refl) in
-    (∣ exchange_sound (sound_out (meaning b) b.sound) x.exchange ∣₁, tt)
+    record { sound = ∣ exchange_sound (sound_out (meaning b) b.sound) x.exchange ∣₁ }
 
 pub invariant_of-self-in-Damaged : goal.invariant_of-self-in-Damaged
 invariant_of-self-in-Damaged c =
     let b = c.args.self.now in
     let e = c.in-Damaged.ensures in
     let x = faulty_exchange b.faults c.next.new.self e.codes e.position b.bus c.damage_reply.new.self c.args.request.now c.damage_reply.new.reply c.damage_reply.result Damaged tt e.code (c.damage_reply.ensures.exchanged (meaning b) refl) in
-    (∣ exchange_sound (sound_out (meaning b) b.sound) x.exchange ∣₁, tt)
+    record { sound = ∣ exchange_sound (sound_out (meaning b) b.sound) x.exchange ∣₁ }
 
 pub returns-in-Clean : goal.returns-in-Clean
 returns-in-Clean c =

@@ -9,10 +9,7 @@ use Rattle.capture.proofs.capture.line.CaptureLine.exchange.Goals as goal
 pub invariant_of-self : goal.invariant_of-self
 invariant_of-self c =
     let x = c.args.self.now in
-    let w = c.answer.ensures in (
-      ∣ exchange_sound (sound_out (meaning x) x.sound) (w.exchanged (meaning x) refl).exchange ∣₁,
-      (x.counted ∙ ap (λ t. length (telegrams_of (recorded t))) (sym w.table), tt),
-    )
+    let w = c.answer.ensures in record { sound = ∣ exchange_sound (sound_out (meaning x) x.sound) (w.exchanged (meaning x) refl).exchange ∣₁; counted = x.counted ∙ ap (λ t. length (telegrams_of (recorded t))) (sym w.table) }
 
 pub returns : goal.returns
 returns c =
