@@ -14,7 +14,7 @@ returns-then-is_full c =
     let full = leb-true 16 c.in-Some.row.count (sym c.if-is_full.ensures) in
     record {
       room = c.requires;
-      added = λ bytes. (refl, full_row bytes (vec_items rows) (address_bytes c.args.address) (vec_len rows) c.in-Some.row rows.ok.0 last.0 last.1 (c.if-eq.ensures.0 refl) full);
+      added = λ bytes. (refl, full_row bytes (vec_items rows) (address_bytes c.args.address) (vec_len rows) c.in-Some.row rows.ok.0 last.0 last.1 (c.if-eq.ensures.same.0 refl) full);
     }
 
 pub returns-then-eq : goal.returns-then-eq
@@ -25,7 +25,7 @@ returns-then-eq c =
     let few = leb-false 16 c.in-Some.row.count (sym c.if-is_full.ensures) in
     record {
       room = c.requires;
-      added = λ bytes. rw c.len-last.ensures (joins_row bytes (vec_items rows) (address_bytes c.args.address) (vec_len rows) c.in-Some.row rows.ok.0 last.0 last.1 c.with.result c.args.start (c.if-eq.ensures.0 refl) few with.address with.starts);
+      added = λ bytes. rw c.len-last.ensures (joins_row bytes (vec_items rows) (address_bytes c.args.address) (vec_len rows) c.in-Some.row rows.ok.0 last.0 last.1 c.with.result c.args.start (c.if-eq.ensures.same.0 refl) few with.address with.starts);
     }
 
 pub returns-then-rows_full : goal.returns-then-rows_full
@@ -34,7 +34,7 @@ returns-then-rows_full c =
     let address = address_bytes c.args.address in
     let unlike : (bytes : List ℕ) → Unlike (meters_of bytes (vec_items rows)) address =
     λ bytes. elim c.match-last_row.branch [
-      | in-Some+else-eq w ↦ unlike_last bytes (vec_items rows) address (vec_len rows) w.in-Some.row rows.ok.0 w.in-Some.ensures.0 w.in-Some.ensures.1 (λ e. both_ways _ w.if-eq.false (w.eq.ensures.1 e))
+      | in-Some+else-eq w ↦ unlike_last bytes (vec_items rows) address (vec_len rows) w.in-Some.row rows.ok.0 w.in-Some.ensures.0 w.in-Some.ensures.1 (λ e. both_ways _ w.if-eq.false (w.eq.ensures.same.1 e))
       | in_default w ↦ unlike_none bytes (vec_items rows) address (sym rows.ok.0 ∙ w.in_default.ensures)
     ] in
     let full = leb-true 250 (vec_len rows) (sym c.if-rows_full.ensures) in
@@ -46,7 +46,7 @@ returns c =
     let address = address_bytes c.args.address in
     let unlike : (bytes : List ℕ) → Unlike (meters_of bytes (vec_items rows)) address =
     λ bytes. elim c.match-last_row.branch [
-      | in-Some+else-eq w ↦ unlike_last bytes (vec_items rows) address (vec_len rows) w.in-Some.row rows.ok.0 w.in-Some.ensures.0 w.in-Some.ensures.1 (λ e. both_ways _ w.if-eq.false (w.eq.ensures.1 e))
+      | in-Some+else-eq w ↦ unlike_last bytes (vec_items rows) address (vec_len rows) w.in-Some.row rows.ok.0 w.in-Some.ensures.0 w.in-Some.ensures.1 (λ e. both_ways _ w.if-eq.false (w.eq.ensures.same.1 e))
       | in_default w ↦ unlike_none bytes (vec_items rows) address (sym rows.ok.0 ∙ w.in_default.ensures)
     ] in
     let few = leb-false 250 (vec_len rows) (sym c.if-rows_full.ensures) in
