@@ -63,7 +63,7 @@ impl Field for Body {
 pub(crate) fn read_all<F: Field + Drop>(text: &[u8], items: Vec<F>) -> Option<Vec<F>>
     requires room { vec_len items + length text.now ≤ vec_capacity items }
     requires empty { vec_len items ≡ 0 }
-    ensures values { MatchOption result (each fits (words_of text.now) ≡ false) (λ v. (each fits (words_of text.now) ≡ true) × (v.items ≡ map value (words_of text.now))) }
+    ensures values { MatchOption result (each F.fits (words_of text.now) ≡ false) (λ v. (each F.fits (words_of text.now) ≡ true) × (v.items ≡ map F.value (words_of text.now))) }
     ensures few { IfSome result (λ v. vec_len v ≤ length text.now) }
 {
     let mut items = items;
