@@ -110,13 +110,18 @@ pairs (b ∷ bs) = omega (arith, pairs bs)
 pub pair_by_pair : (bs : List ℕ) → positional 100 pair bs ≡ digits_value bs
 pair_by_pair bs = pairs bs ∙ total_from_0 10 (λ d. d) (digits bs)
 
+positional_same : (base : ℕ) (f g : ℕ → ℕ) → ((b : ℕ) → f b ≡ g b) → (bs : List ℕ) → positional base f bs ≡ positional base g bs
+positional_same base f g e [] = refl
+positional_same base f g e (b ∷ bs) = omega (arith, e b, ap (λ x. base * x) (positional_same base f g e bs))
+
 -- the storage number, by the digits in base 16 of the DIFEs
-pub storage_is : (dif : ℕ) (bs : List ℕ) → dif / 64 % 2 + 2 * positional 16 (λ b. b % 16) bs ≡ storage_of dif bs
+pub storage_is : (dif : ℕ) (bs : List ℕ) → dif / 64 % 2 + 2 * total (λ i. 16 ^ i) (λ b. b / 1 % 16) 0 bs ≡ storage_of dif bs
 storage_is dif bs =
     let w : (i : ℕ) → 2 ^ (4 * (i + 1) - 3) ≡ 2 * 16 ^ i =
     λ i. ap (λ k. 2 ^ k) (omega arith) ∙ (pow_more 2 (4 * i) ∙ (mul_comm _ 2 ∙ ap (λ x. 2 * x) (sym (pow_pow 2 4 i)))) in
     let t = total_is (λ i. 2 ^ (4 * i - 3)) (λ b. b % 16) 2 16 1 w bs 0 in
-    omega (arith, t)
+    let s = positional_same 16 (λ b. b / 1 % 16) (λ b. b % 16) (λ b. omega arith) bs in
+    omega (arith, t, s, total_from_0 16 (λ b. b / 1 % 16) bs)
 
 -- the weight of the highest bit of k bytes
 pub half_is : (k : ℕ) → 1 ≤ k → k ≤ 8 → (1 * 2 ^ (8 * k - 1)) % 2 ^ 64 ≡ 2 ^ (8 * k - 1)

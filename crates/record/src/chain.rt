@@ -1,8 +1,9 @@
 // Chains of extension bytes: bit 7 of a byte says that one follows, and at most ten may.
-ghost use Rattle.std.specs.Prelude.{◌≡◌, ◌+◌, ◌<◌, ◌≤◌, length, IfOk};
+ghost use Rattle.std.specs.Prelude.{◌≡◌, ◌+◌, ◌/◌, ◌%◌, ◌^◌, ◌<◌, ◌≤◌, length, IfOk};
 ghost use Rattle.link.specs.Checks.{first_fault};
 ghost use Rattle.record.specs.Chains.{asked, chain_checks, chain_end, extensions, storage_of, tariff_of, subunit_of};
 ghost use Rattle.record.specs.Faults.{record_fault};
+ghost use Rattle.record.specs.Numbers.{total};
 
 use crate::fault::RecordFault;
 
@@ -37,34 +38,37 @@ pub(crate) fn after_chain(bytes: &[u8], first: usize) -> Result<usize, RecordFau
     Ok(last + 1)
 }
 
-// The storage number, tariff and sub-unit of a record.
-#[derive(Clone, Copy)]
-pub(crate) struct Register {
-    pub(crate) storage: u64,
-    pub(crate) tariff: u32,
-    pub(crate) subunit: u16,
+// The number whose digits stand in some bits of each byte, the lowest digit in the first byte.
+fn joined(bytes: &[u8], unit: u64, base: u64) -> u64
+    requires { (length bytes.now ≤ 10) × ((0 < unit) × ((0 < base) × (base ≤ 16))) }
+    ensures value { result ≡ total (λ i. base ^ i) (λ b. b / unit % base) 0 bytes.now }
+    ensures bound { result < base ^ length bytes.now }
+{
+    let mut n: u64 = 0;
+    for i in (0..bytes.len()).rev() {
+        n = n * base + u64::from(bytes[i]) / unit % base;
+    }
+    n
 }
 
-// Each is a number whose digits stand in some bits of the DIFEs, the lowest digit in the first; the lowest bit of
-// the storage number is bit 6 of the DIF. One pass for all three, since most time goes where a loop ends.
-pub(crate) fn register_of(dif: u8, difes: &[u8]) -> Register
+// The storage number, whose lowest bit is bit 6 of the DIF.
+pub(crate) fn storage(dif: u8, difes: &[u8]) -> u64
     requires { length difes.now ≤ 10 }
-    ensures storage { result.storage ≡ storage_of dif difes.now }
-    ensures tariff { result.tariff ≡ tariff_of difes.now }
-    ensures subunit { result.subunit ≡ subunit_of difes.now }
+    ensures { result ≡ storage_of dif difes.now }
 {
-    let mut storage: u64 = 0;
-    let mut tariff: u32 = 0;
-    let mut subunit: u16 = 0;
-    for i in (0..difes.len()).rev() {
-        let dife = difes[i];
-        storage = storage * 16 + u64::from(dife % 16);
-        tariff = tariff * 4 + u32::from(dife / 16 % 4);
-        subunit = subunit * 2 + u16::from(dife / 64 % 2);
-    }
-    Register {
-        storage: u64::from(dif / 64 % 2) + 2 * storage,
-        tariff,
-        subunit,
-    }
+    u64::from(dif / 64 % 2) + 2 * joined(difes, 1, 16)
+}
+
+pub(crate) fn tariff(difes: &[u8]) -> u32
+    requires { length difes.now ≤ 10 }
+    ensures { result ≡ tariff_of difes.now }
+{
+    joined(difes, 16, 4) as u32
+}
+
+pub(crate) fn subunit(difes: &[u8]) -> u16
+    requires { length difes.now ≤ 10 }
+    ensures { result ≡ subunit_of difes.now }
+{
+    joined(difes, 64, 2) as u16
 }

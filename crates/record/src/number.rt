@@ -1,5 +1,5 @@
 // The numbers among the data, lowest byte first.
-ghost use Rattle.std.specs.Prelude.{◌≡◌, ◌+◌, ◌*◌, ◌^◌, ◌<◌, ◌≤◌, length, IfOk, if◌then◌else◌, slice_index};
+ghost use Rattle.std.specs.Prelude.{◌≡◌, ◌+◌, ◌*◌, ◌^◌, ◌<◌, ◌≤◌, length, IfOk, slice_index};
 ghost use Rattle.link.specs.Checks.{first_fault};
 ghost use Rattle.telegram.specs.Digits.{decimal as both_decimal};
 ghost use Rattle.record.specs.Faults.{record_fault};
@@ -51,38 +51,29 @@ fn is_decimal(byte: u8) -> bool
     (byte % 16 <= 9) & (byte / 16 <= 9)
 }
 
-// What the bytes of a decimal number show.
-#[derive(Clone, Copy)]
-struct Digits {
-    // the number, without the sign
-    value: u64,
-    // the first byte with a digit above 9 that is no sign, or the length
-    bad: usize,
-}
-
-// The first bad byte from `i` on, where `after` is the first one after it.
-fn first_bad_from(i: usize, after: usize, good: bool) -> usize
-    ensures { result ≡ (if good then after else i) }
+// The first byte with a digit above 9 that is no sign, or the length.
+fn first_bad_digit(bytes: &[u8]) -> usize
+    ensures { result ≡ first_bad bytes.now }
 {
-    if good { after } else { i }
-}
-
-// The number and the first bad byte in one pass, in which no digit decides a jump.
-fn read_digits(bytes: &[u8]) -> Digits
-    requires { length bytes.now ≤ 8 }
-    ensures value { result.value ≡ digits_value (magnitude bytes.now) }
-    ensures bound { result.value + 2 ≤ 2 * 100 ^ length bytes.now }
-    ensures bad { result.bad ≡ first_bad bytes.now }
-{
-    let mut value: u64 = 0;
-    let mut bad = bytes.len();
-    for i in (0..bytes.len()).rev() {
-        let byte = digits_at(bytes, i);
-        bad = first_bad_from(i, bad, is_decimal(byte));
-        let b = u64::from(byte);
-        value = value * 100 + (b / 16 * 10 + b % 16);
+    let mut at = 0;
+    while at < bytes.len() && is_decimal(digits_at(bytes, at)) {
+        at += 1;
     }
-    Digits { value, bad }
+    at
+}
+
+// The number that the digits are, without the sign.
+fn digits(bytes: &[u8]) -> u64
+    requires { length bytes.now ≤ 8 }
+    ensures value { result ≡ digits_value (magnitude bytes.now) }
+    ensures bound { result + 2 ≤ 2 * 100 ^ length bytes.now }
+{
+    let mut n: u64 = 0;
+    for i in (0..bytes.len()).rev() {
+        let b = u64::from(digits_at(bytes, i));
+        n = n * 100 + (b / 16 * 10 + b % 16);
+    }
+    n
 }
 
 // The bytes from `place` on as a decimal number, two digits to a byte. A topmost digit F means minus.
@@ -91,11 +82,11 @@ pub(crate) fn decimal(bytes: &[u8], place: usize) -> Result<i64, RecordFault>
     ensures fault { record_fault result ≡ first_fault (digit_checks place (magnitude bytes.now)) }
     ensures value { IfOk result (λ v. v ≡ decimal_of bytes.now) }
 {
-    let Digits { value, bad } = read_digits(bytes);
+    let bad = first_bad_digit(bytes);
     if bad < bytes.len() {
         return Err(RecordFault::Digit { place: place + bad });
     }
-    let n = value as i64;
+    let n = digits(bytes) as i64;
     if bytes[bytes.len() - 1] >= 0xf0 {
         return Ok(-n);
     }
