@@ -16,8 +16,6 @@ use Rattle.record.specs.declared.reading.Value.{Value}
 use Rattle.record.specs.declared.reading.Value.TheVariants.{Integer}
 use Rattle.record.specs.Records.{record_of, record_refusal}
 use Rattle.line.specs.Laws.{ShowsRun}
-use Rattle.search.specs.Examples.{EndsWith, first, second}
-use Rattle.search.specs.Verdicts.{Entry, only, shared}
 
 -- the selection of the numbers that begin with these digits
 abbrev pub selection_of : List ℕ → Request
@@ -34,8 +32,6 @@ pub data Example : Type 0 where
   refuses_body : (body : List ℕ) (expected : Report) → Example
   -- the run that shows above layers of these tries, the lowest layer first
   shows_run : (layers : List ℕ) (run seen : ℕ) → Example
-  -- what a search over a line without faults lists of meters with these numbers, and how many selections it sends
-  lists : (numbers : List (List ℕ)) (entries : List (Entry (List ℕ))) (selections : ℕ) → Example
 
 -- a body begins at place 19
 abbrev pub with_body : List ℕ → List ℕ
@@ -52,7 +48,6 @@ Holds (refuses bytes expected) = frame_refusal bytes ≡ Some expected
 Holds (reads body v p u) = Amounts v p u (record_of (with_body body) 19)
 Holds (refuses_body body expected) = record_refusal (with_body body) 19 ≡ Some expected
 Holds (shows_run layers run seen) = ShowsRun layers run seen
-Holds (lists numbers entries selections) = EndsWith numbers entries selections
 
 abbrev pub examples : List Example
 examples =
@@ -77,11 +72,6 @@ examples =
     -- two tries, and then three over them
     ∷ shows_run (2 ∷ 3 ∷ []) 5 0
     ∷ shows_run (2 ∷ 3 ∷ []) 6 1
-    -- 12345678 and 12900003, in either order on the line
-    ∷ lists (first ∷ second ∷ []) (only first ∷ only second ∷ []) 31
-    ∷ lists (second ∷ first ∷ []) (only first ∷ only second ∷ []) 31
-    -- two meters of one number
-    ∷ lists (first ∷ first ∷ []) (shared first ∷ []) 81
     ∷ []
 
 abbrev pub AllHold : Type 0

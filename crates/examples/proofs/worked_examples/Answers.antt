@@ -4,13 +4,12 @@ use Rattle.telegram.specs.Requests.{request_bytes}
 use Rattle.quantity.specs.Table.{vif_meaning}
 use Rattle.record.specs.Codings.{dif_coding}
 use Rattle.record.specs.Records.{record_of, record_refusal}
-use Rattle.search.proofs.Worked.{one_number, two_numbers}
 use Rattle.examples.proofs.worked_examples.Goals as goal
 
 pub returns : goal.returns
 unfolding frame_refusal request_bytes vif_meaning dif_coding record_of record_refusal
 returns c =
     record {
-      hold = (refl, (refl, (refl, (refl, (refl, (refl, ((refl, refl, refl), ((refl, refl, refl), ((refl, refl, refl), (refl, ((λ b s. refl), ((λ b s. refl), (two_numbers.0, (two_numbers.1, (one_number, tt)))))))))))))));
+      hold = (refl, (refl, (refl, (refl, (refl, (refl, ((refl, refl, refl), ((refl, refl, refl), ((refl, refl, refl), (refl, ((λ b s. refl), ((λ b s. refl), tt))))))))))));
       count = refl;
     }
