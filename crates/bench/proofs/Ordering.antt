@@ -1,5 +1,5 @@
 -- The checks before a bench is made, and what it means that all of them hold.
-use Rattle.std.proofs.Common.{◌≡◌, ℕ, ◌+◌, List, ◌++◌, length, Option, sym, ap, ◌∙◌, ap₂}
+use Rattle.std.proofs.Common.{◌≡◌, ℕ, List, ◌++◌, length, Option, sym, ◌∙◌, ap₂}
 use Rattle.link.specs.declared.fault.Report.{Report}
 use Rattle.link.specs.Checks.{FailsFirst, first_fault}
 use Rattle.link.proofs.Ordering.{fails_first_at, first_joined, or_else}

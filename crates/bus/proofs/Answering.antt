@@ -1,5 +1,5 @@
 -- What meters of a table answer is one exchange of their line.
-use Rattle.std.proofs.Common.{◌≡◌, ℕ, ◌<◌, List, [], length, sym, refl, ap, ◌∙◌, subst, arith}
+use Rattle.std.proofs.Common.{◌≡◌, ℕ, ◌<◌, List, length, sym, refl, ap, ◌∙◌, subst, arith}
 use Rattle.std.specs.List.{AllByRecursion as All}
 use Rattle.link.specs.Buffers.{filled}
 use Rattle.line.specs.Meters.{Meter, Stocked}

@@ -1,5 +1,5 @@
 -- What a table of meters remembers, as the memory of a bus.
-use Rattle.std.specs.Prelude.{◌≡◌, ℕ, ◌<◌, Bool, List, [], ◌∷◌, length, Some, None, Option}
+use Rattle.std.specs.Prelude.{◌≡◌, ℕ, ◌<◌, List, [], ◌∷◌, length, Some, None, Option}
 use Rattle.std.specs.Option.{option_map}
 use Rattle.line.specs.Meters.{Meter}
 use Rattle.line.specs.Buses.{Bus}

@@ -1,4 +1,6 @@
 // A line made from a capture: recorded reply telegrams, end to end.
+#![tactic(auto)]
+
 pub mod capture;
 pub mod fault;
 mod index;

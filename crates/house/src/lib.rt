@@ -1,5 +1,7 @@
 // The text of a test house: lines that give a bench's area, meters and fault codes, the layers over it, and the
 // calls on a master above them.
+#![tactic(auto)]
+
 mod address;
 mod field;
 pub mod house;

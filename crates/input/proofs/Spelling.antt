@@ -1,9 +1,8 @@
 -- A text spells exactly the bytes that are read from it.
-use Rattle.std.proofs.Common.{◌≡◌, ℕ, ◌+◌, ◌*◌, ◌<◌, ◌≤◌, true, false, cond, eqb, List, [], ◌∷◌, ◌++◌, is_some, Some, None, Option, sym, refl, ap, ◌∙◌, subst, ⊎_elim, arith}
+use Rattle.std.proofs.Common.{◌≡◌, ℕ, ◌+◌, ◌*◌, true, false, cond, eqb, List, [], ◌∷◌, is_some, Some, None, Option, sym, refl, ap, ◌∙◌, subst, ⊎_elim, arith}
 use Rattle.std.proofs.lemmas.Bool.{cases_eq, ne_eqb}
-use Rattle.input.specs.Hex.{Spells, nothing, space, pair, after_step, and_byte, by_digit, bytes_from, hex_value, is_hex, step_of}
-use Rattle.input.specs.declared.hex.Step.{Step}
-use Rattle.input.specs.declared.hex.Step.TheVariants.{Open, Byte, Stray}
+use Rattle.input.specs.Hex.{Spells, nothing, space, pair, after_step, and_byte, bytes_from, hex_value, is_hex}
+use Rattle.input.specs.declared.hex.Step.TheVariants.{Open, Stray}
 
 -- the bytes of a text are spelled
 abbrev Reads : List ℕ → Type 0

@@ -1,5 +1,5 @@
 -- Reply telegrams that carry an address, as they are written and as they are read.
-use Rattle.std.proofs.Common.{◌≡◌, ℕ, ◌+◌, ◌/◌, ◌%◌, ◌≤◌, true, not, List, [], ◌∷◌, ◌++◌, length, get_or, take, is_some, Ok, sym, refl, ap, ◌∙◌, subst, arith}
+use Rattle.std.proofs.Common.{◌≡◌, ℕ, ◌/◌, ◌%◌, ◌≤◌, true, not, List, [], ◌∷◌, ◌++◌, length, take, is_some, Ok, refl, ap, ◌∙◌, subst, arith}
 use Rattle.std.proofs.lemmas.List.{append_assoc, get_or_append_left, length-append, take_at}
 use Rattle.link.specs.Frames.{checksum, long, written}
 use Rattle.telegram.specs.declared.address.Address.{Address}
@@ -8,7 +8,7 @@ use Rattle.telegram.specs.Addresses.{address_bytes}
 use Rattle.telegram.specs.Digits.{decimal_number}
 use Rattle.telegram.specs.Replies.{ReadsReply, body_of, is_reply}
 use Rattle.telegram.proofs.Replying.{passes}
-use Rattle.line.specs.Meters.{Carries, address_in}
+use Rattle.line.specs.Meters.{Carries}
 
 decimal_front : (n rest : List ℕ) → length n ≡ 4 → decimal_number n ≡ true → decimal_number (n ++ rest) ≡ true
 decimal_front n rest l h =

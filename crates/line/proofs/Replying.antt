@@ -3,12 +3,11 @@ use Rattle.std.proofs.Common.{◌≡◌, ℕ, ◌-◌, ◌<◌, ◌≤◌, Bool,
 use Rattle.std.specs.List.{AllByRecursion as All}
 use Rattle.std.proofs.ByRecursion.{All-get_or}
 use Rattle.std.proofs.lemmas.Bool.{both_ways, or_right}
-use Rattle.link.specs.Frames.{ack, written, frame_refusal}
 use Rattle.telegram.specs.declared.request.Request.{Request}
 use Rattle.telegram.specs.declared.request.Request.TheVariants.{Selection, Fetch, Release}
 use Rattle.telegram.specs.Replies.{Garbled, answers, is_ack, is_reply, reply_refusal}
 use Rattle.line.specs.Meters.{Meter, Carries, Stocked}
-use Rattle.line.specs.Buses.{Bus, Due, Arrives, Damages, Turned, due, due_selects, due_fetches, selected, turn_fits}
+use Rattle.line.specs.Buses.{Bus, Due, Damages, Turned, due, due_selects, due_fetches, selected, turn_fits}
 use Rattle.line.specs.Exchanges.{State, Clean, Exchange, due_to, heard}
 use Rattle.line.proofs.Hearing.{selected_stocked}
 

@@ -5,7 +5,7 @@ use Rattle.std.proofs.lemmas.Bool.{both_ways}
 use Rattle.telegram.specs.Replies.{Garbled, answers}
 use Rattle.telegram.specs.Requests.{request_of}
 use Rattle.line.specs.Buses.{Bus, Due, Arrives, Damages, due}
-use Rattle.line.specs.Exchanges.{State, Clean, Exchange, Sound, cleared, faulted, heard, due_to}
+use Rattle.line.specs.Exchanges.{State, Exchange, Sound, cleared, faulted, heard, due_to}
 use Rattle.line.specs.Layering.{div_mono}
 use Rattle.line.specs.Layers.{divided, last_reply}
 use Rattle.line.proofs.Hearing.{hear_twice}

@@ -1,6 +1,6 @@
 -- Meters are stocked, and a state is sound, in at most one way: so each can be taken out of a truncation, in which
 -- a ghost field has it.
-use Rattle.std.specs.Prelude.{◌≡◌, ℕ, Bool, List, [], ◌∷◌, Some, None, Option}
+use Rattle.std.specs.Prelude.{ℕ, Bool, List, [], ◌∷◌, Some, None, Option}
 use Rattle.std.proofs.Math.Bool.{Bool-set}
 use mathlib.Core.HLevel.{×_prop}
 use mathlib.Core.List.{is_set}

@@ -1,5 +1,5 @@
 -- From what the reading of a frame tells to what the laws say of it.
-use Rattle.std.proofs.Common.{◌≡◌, ℕ, cond, List, length, take, is_some, IfOk, Some, None, Ok, Err, Option, Result, sym, refl, ap, ◌∙◌, arith}
+use Rattle.std.proofs.Common.{◌≡◌, ℕ, cond, List, length, take, is_some, IfOk, Some, None, Ok, Err, Option, Result, sym, ap, ◌∙◌, arith}
 use Rattle.link.specs.declared.fault.Report.{Report}
 use Rattle.link.specs.declared.fault.FrameFault.{FrameFault}
 use Rattle.link.specs.declared.frame.Frame.{Frame}

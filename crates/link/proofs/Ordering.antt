@@ -1,7 +1,7 @@
 -- The first check that fails, and those before it that hold.
-use Rattle.std.proofs.Common.{◌≡◌, Bool, true, false, cond, List, [], ◌∷◌, ◌++◌, Some, None, Option, sym, refl, ap, subst}
+use Rattle.std.proofs.Common.{◌≡◌, true, false, List, [], ◌∷◌, ◌++◌, Some, None, Option, sym, refl, ap, subst}
 use Rattle.link.specs.declared.fault.Report.{Report}
-use Rattle.link.specs.Checks.{Check, must, First, FailsFirst, first_fault}
+use Rattle.link.specs.Checks.{Check, must, FailsFirst, first_fault}
 
 -- one more check that holds in front
 after_one : (r : Report) (cs : List Check) (o : Option Report) → FailsFirst cs o → FailsFirst (must true r ∷ cs) o

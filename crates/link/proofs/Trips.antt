@@ -1,14 +1,12 @@
 -- Reading accepts what writing gives, and finds its parts; no two frames have the same bytes.
-use Rattle.std.proofs.Common.{◌≡◌, ℕ, ◌+◌, ◌-◌, ◌<◌, ◌≤◌, eqb, leb, ◌⊎◌, List, [], ◌∷◌, ◌++◌, length, get_or, take, drop, Some, None, Option, sym, refl, ap, ◌∙◌, inl, inr, ⊎_elim, arith}
+use Rattle.std.proofs.Common.{◌≡◌, ℕ, ◌+◌, ◌-◌, List, [], ◌∷◌, ◌++◌, length, get_or, take, drop, None, sym, refl, ap, ◌∙◌, arith}
 use Rattle.std.specs.List.{between}
-use Rattle.std.proofs.lemmas.List.Edits.{length-between}
 use Rattle.std.proofs.lemmas.List.{append_assoc, length-append, get_or_at, take_at}
-use Rattle.std.proofs.lemmas.Bool.{le-leb, eq-eqb, ne_eqb, cases_eq}
-use Rattle.std.proofs.lemmas.Bool.Decides.{nat_tests}
+use Rattle.std.proofs.lemmas.Bool.{le-leb, eq-eqb}
 use Rattle.link.specs.Checks.{first_fault}
-use Rattle.link.specs.Frames.{Parts, frame_refusal, ack, short, long, checksum, end_checks, long_checks, short_checks, ack_checks, frame_checks, with_sum, parts_in, written}
+use Rattle.link.specs.Frames.{Parts, frame_refusal, ack, short, long, checksum, end_checks, frame_checks, with_sum, parts_in, written}
 use Rattle.link.proofs.Lists.{between_at}
-use Rattle.link.proofs.Passed.{Ended, Headed, ended, headed_checks, ack_bytes, short_bytes, long_bytes}
+use Rattle.link.proofs.Passed.{Ended, Headed, headed_checks}
 
 -- a front, and then summed bytes with their sum, end as a frame does
 ends_well : (front body : List ℕ) (from size : ℕ) → length front ≡ from → length (front ++ body) + 2 ≡ size → Ended from size (front ++ with_sum body)

@@ -1,5 +1,5 @@
 -- A fetch, told from its exchange.
-use Rattle.std.proofs.Common.{◌≡◌, ℕ, ◌≤◌, Bool, true, false, not, List, [], length, take, Ok, Err, sym, refl, subst, arith, length-take-le}
+use Rattle.std.proofs.Common.{◌≡◌, ℕ, Bool, true, false, not, List, [], length, take, Ok, Err, sym, refl, subst, arith, length-take-le}
 use Rattle.link.specs.Buffers.{filled}
 use Rattle.telegram.specs.Replies.{is_reply}
 use Rattle.line.specs.Exchanges.{State, Exchange, Exchanged}

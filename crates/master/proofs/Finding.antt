@@ -1,8 +1,8 @@
 -- What a search finds, from what it sends.
-use Rattle.std.proofs.Common.{◌≡◌, ℕ, ◌+◌, ◌≤◌, Bool, true, false, eqb, List, [], ◌∷◌, ◌++◌, length, None, sym, refl, ap, ◌∙◌, subst, arith, length-append}
+use Rattle.std.proofs.Common.{◌≡◌, ℕ, Bool, true, false, eqb, List, [], ◌∷◌, None, sym, refl, ap, ◌∙◌, subst, arith, length-append}
 use Rattle.std.proofs.lemmas.Bool.{both_ways, eq-eqb}
 use Rattle.line.specs.Buses.{hear}
-use Rattle.line.specs.Exchanges.{State, Chain, Clean, Exchange, Sound}
+use Rattle.line.specs.Exchanges.{State, Chain, Exchange, Sound}
 use Rattle.line.proofs.Exchanging.{always_clean}
 use Rattle.search.specs.Addresses.{number}
 use Rattle.search.specs.Laws.{TrueList, WholeList}
@@ -18,7 +18,7 @@ use Rattle.master.specs.Laws.{Clears, Enough, Finds, addresses, faultless}
 use Rattle.master.specs.Requests.{release}
 use Rattle.master.specs.Searches.{Ends, Searched, Walk, full, probe, start, whole}
 use Rattle.master.proofs.Asking.{release_read}
-use Rattle.master.proofs.Keeping.{Keeps, chain_head, chain_keeps, chain_none, chain_parts}
+use Rattle.master.proofs.Keeping.{chain_head, chain_keeps, chain_none, chain_parts}
 use Rattle.master.proofs.Telling.{addresses_numbered, probe_tells}
 
 -- where the line has no faults, no meter is selected after a release

@@ -1,5 +1,5 @@
 -- What one exchange does to a meter that is linked.
-use Rattle.std.proofs.Common.{◌≡◌, ℕ, suc, ◌+◌, ◌-◌, ◌%◌, ◌<◌, ◌≤◌, Bool, true, false, cond, not, List, [], ◌∷◌, length, get_or, Some, None, Ok, Err, Option, Result, sym, refl, ap, ◌∙◌, subst, mod-lt, arith}
+use Rattle.std.proofs.Common.{◌≡◌, ℕ, suc, ◌+◌, ◌-◌, ◌%◌, Bool, true, false, cond, not, List, [], ◌∷◌, length, get_or, Some, None, Option, Result, sym, refl, ap, ◌∙◌, subst, mod-lt, arith}
 use native.Mathlib.Nat.{mod-add-mod}
 use Rattle.std.specs.List.{AllByRecursion as All}
 use Rattle.std.proofs.ByRecursion.{All-get_or}
@@ -8,12 +8,12 @@ use Rattle.link.specs.Buffers.{filled}
 use Rattle.telegram.specs.Replies.{is_reply, reply_refusal}
 use Rattle.line.specs.Meters.{Meter, Carries, Stocked}
 use Rattle.line.specs.Buses.{Bus, Due, Arrives, advance, due, due_fetches, fetched, fitting, hear, holds, selected}
-use Rattle.line.specs.Exchanges.{State, Clean, Exchange, Sound, due_to, heard}
+use Rattle.line.specs.Exchanges.{State, Exchange, Sound, due_to, heard}
 use Rattle.line.proofs.Exchanging.{always_clean}
 use Rattle.line.proofs.Hearing.{selected_stocked}
 use Rattle.line.proofs.Replying.{answered_clean, reply_answers}
 use Rattle.master.specs.declared.fault.FetchFault.{FetchFault}
-use Rattle.master.specs.Picks.{Continues, Fetches, Linked, Turn, flipped, telegram}
+use Rattle.master.specs.Picks.{Continues, Fetches, Linked, Turn, telegram}
 use Rattle.master.specs.Requests.{fetch, pattern_of}
 use Rattle.master.proofs.Asking.{fetch_read}
 

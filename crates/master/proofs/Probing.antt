@@ -1,5 +1,5 @@
 -- A probe, told from its exchanges.
-use Rattle.std.proofs.Common.{◌≡◌, ℕ, ◌-◌, ◌≤◌, true, false, List, [], ◌∷◌, length, take, is_ok, Ok, Result, sym, ap, ◌∙◌, subst, arith}
+use Rattle.std.proofs.Common.{◌≡◌, ℕ, ◌-◌, true, false, List, [], ◌∷◌, length, take, is_ok, Ok, Result, sym, ap, ◌∙◌, subst, arith}
 use Rattle.std.proofs.lemmas.Bool.{cond-true, cond-false}
 use Rattle.telegram.specs.declared.fault.ReplyFault.{ReplyFault}
 use Rattle.telegram.specs.declared.reply.Reply.{Reply}
@@ -13,7 +13,7 @@ use Rattle.line.specs.Meters.{Carries, address_in}
 use Rattle.line.specs.Exchanges.{State, Exchange, Exchanged, Chain}
 use Rattle.line.proofs.Exchanging.{chain_one}
 use Rattle.search.specs.Verdicts.{Verdict, nobody, one, several}
-use Rattle.master.specs.Probes.{Probe, Probed, answered, silent, told}
+use Rattle.master.specs.Probes.{Probed, answered, silent, told}
 use Rattle.master.specs.Requests.{fetch, selection}
 use Rattle.master.proofs.Fetching.{reply_size}
 

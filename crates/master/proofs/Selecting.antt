@@ -1,12 +1,12 @@
 -- What the selection of a pattern does.
-use Rattle.std.proofs.Common.{◌≡◌, ℕ, ◌<◌, ◌≤◌, Bool, true, false, ltb, List, [], ◌∷◌, length, Some, None, sym, refl, ap, ◌∙◌, subst, arith}
+use Rattle.std.proofs.Common.{◌≡◌, ℕ, ◌≤◌, Bool, ltb, List, [], ◌∷◌, length, Some, sym, refl, ap, ◌∙◌, subst, arith}
 use Rattle.std.proofs.lemmas.Bool.{ltb-true}
 use Rattle.line.specs.Meters.{Meter}
 use Rattle.line.specs.Buses.{Bus, Arrives, due, due_selects, fitting, hear, holds, reselected, selected}
-use Rattle.line.specs.Exchanges.{State, Clean, Exchange, cleared, due_to, heard}
+use Rattle.line.specs.Exchanges.{State, Exchange, due_to, heard}
 use Rattle.line.proofs.Exchanging.{always_clean}
 use Rattle.line.proofs.Replying.{replied_heard}
-use Rattle.master.specs.Picks.{Linked, Selects, Starts, Turn}
+use Rattle.master.specs.Picks.{Selects, Starts, Turn}
 use Rattle.master.specs.Requests.{pattern_of, selection}
 use Rattle.master.proofs.Asking.{selection_read}
 

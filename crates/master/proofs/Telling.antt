@@ -1,5 +1,5 @@
 -- What a probe tells of the meters that its beginning fits.
-use Rattle.std.proofs.Common.{◌≡◌, ℕ, ◌%◌, ◌<◌, ◌≤◌, Bool, true, false, cond, ltb, List, [], ◌∷◌, map, length, Some, filter, sym, refl, ap, ◌∙◌, subst, mod-lt, arith}
+use Rattle.std.proofs.Common.{◌≡◌, ℕ, ◌%◌, ◌<◌, ◌≤◌, Bool, true, cond, ltb, List, [], ◌∷◌, map, length, Some, filter, sym, refl, ap, ◌∙◌, subst, mod-lt, arith}
 use Rattle.std.specs.List.{AllByRecursion as All}
 use Rattle.std.proofs.ByRecursion.{All-get_or}
 use Rattle.std.proofs.lemmas.Bool.{both_ways, eqb-true, lt-ltb, cond_both, cond-true, cond-false}
@@ -7,7 +7,7 @@ use Rattle.telegram.specs.Patterns.{beginning_pattern, fits}
 use Rattle.telegram.specs.Replies.{Garbled, answers, is_reply}
 use Rattle.line.specs.Meters.{Meter, Carries, Stocked, address_in}
 use Rattle.line.specs.Buses.{Bus, Due, Arrives, Damages, due, due_fetches, due_selects, fetched, fitting, hear, selected}
-use Rattle.line.specs.Exchanges.{State, Clean, Exchange, Chain, Sound, due_to, heard}
+use Rattle.line.specs.Exchanges.{State, Exchange, Chain, Sound, due_to, heard}
 use Rattle.line.proofs.Replying.{answered_clean, reply_answers}
 use Rattle.search.specs.Addresses.{number}
 use Rattle.search.specs.Numbers.{begins}
@@ -17,12 +17,12 @@ use Rattle.search.proofs.Fitting.{pattern_fits}
 use Rattle.search.proofs.Holders.{kept_by_same}
 use Rattle.search.proofs.Steps.{InTree}
 use Rattle.master.specs.Laws.{addresses, faultless}
-use Rattle.master.specs.Picks.{Linked, Selects, telegram}
+use Rattle.master.specs.Picks.{Selects, telegram}
 use Rattle.master.specs.Probes.{Probe, answered, silent, told}
 use Rattle.master.specs.Requests.{fetch, pattern_of, selection}
 use Rattle.master.proofs.Asking.{fetch_read}
 use Rattle.master.proofs.Carrying.{stocked_address}
-use Rattle.master.proofs.Keeping.{Keeps, chain_head, exchange_keeps}
+use Rattle.master.proofs.Keeping.{chain_head, exchange_keeps}
 use Rattle.master.proofs.Linking.{fetch_clear, fetch_next, linked_stocked}
 use Rattle.master.proofs.Selecting.{chosen, clear_reply, pick_starts, reply_heard, selects_due}
 

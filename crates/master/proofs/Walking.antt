@@ -1,5 +1,5 @@
 -- The turns of the walk over the beginnings.
-use Rattle.std.proofs.Common.{◌≡◌, ℕ, suc, ◌+◌, ◌<◌, ◌≤◌, Bool, true, false, cond, List, [], ◌∷◌, ◌++◌, length, count_by, sym, refl, ap, ◌∙◌, subst, arith}
+use Rattle.std.proofs.Common.{◌≡◌, ℕ, suc, ◌+◌, ◌<◌, Bool, true, false, cond, List, [], ◌∷◌, ◌++◌, length, count_by, sym, refl, ap, subst, arith}
 use mathlib.Core.Option.{none, some}
 use Rattle.std.proofs.lemmas.List.Sums.{sum_by-append}
 use Rattle.telegram.specs.Patterns.{beginning_pattern}
@@ -14,7 +14,7 @@ use Rattle.search.proofs.Next.{todo_is, todo_upnext}
 use Rattle.search.proofs.Steps.{left_bound, left_falls}
 use Rattle.master.specs.Picks.{Releases}
 use Rattle.master.specs.Probes.{Probe, Probed, answered, silent}
-use Rattle.master.specs.Requests.{fetch, release, selection}
+use Rattle.master.specs.Requests.{release}
 use Rattle.master.specs.Searches.{Ends, Searched, Walk, Walked, asks_selection, full, probe, selections_in, start, whole}
 use Rattle.master.proofs.Asking.{fetch_read, release_read, selection_read}
 use Rattle.master.proofs.Pushing.{one_of}

@@ -1,5 +1,5 @@
 -- The laws of a search, told from the meaning of the line.
-use Rattle.std.specs.Prelude.{◌≡◌, ℕ, ◌≤◌, Bool, true, false, List, map, length, None, ◌==◌}
+use Rattle.std.specs.Prelude.{◌≡◌, ℕ, ◌≤◌, Bool, false, List, map, length, None, ◌==◌}
 use Rattle.line.specs.Meters.{Meter}
 use Rattle.line.specs.Exchanges.{State}
 use Rattle.search.specs.Addresses.{number}

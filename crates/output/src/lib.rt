@@ -1,4 +1,6 @@
 // The lines of `key=value` fields that the programs print, one type with a `Display` for each kind of line.
+#![tactic(auto)]
+
 pub mod bench;
 pub mod call;
 pub mod capture;

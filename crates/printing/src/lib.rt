@@ -1,3 +1,5 @@
 // Printing what telegrams and calls say, as all programs do.
+#![tactic(auto)]
+
 pub mod outcome;
 pub mod telegram;

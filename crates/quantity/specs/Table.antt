@@ -1,6 +1,6 @@
 -- The table of VIF codes, the low seven bits of a VIF: which quantity each row of codes states, in which unit,
 -- and with which power of ten.
-use Rattle.std.specs.Prelude.{ℕ, ◌+◌, ◌%◌, ◌≤◌, Bool, true, cond, ◌&&◌, ◌||◌, List, [], ◌∷◌, ℤ, pos, ◌-ℤ◌, Some, None, Option, ◌==◌, nat_le, nat_lt}
+use Rattle.std.specs.Prelude.{ℕ, ◌+◌, ◌%◌, ◌≤◌, Bool, cond, ◌&&◌, ◌||◌, List, [], ◌∷◌, ℤ, pos, ◌-ℤ◌, Some, None, Option, ◌==◌, nat_le, nat_lt}
 use Rattle.quantity.specs.declared.meaning.Meaning.{Meaning}
 use Rattle.quantity.specs.declared.quantity.Quantity.{Quantity}
 use Rattle.quantity.specs.declared.quantity.Quantity.TheVariants as quantity

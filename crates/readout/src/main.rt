@@ -1,4 +1,6 @@
 // Reads the capture in the file capture.bin of the current folder, searches it, and prints what each meter's telegrams say.
+#![tactic(auto)]
+
 use capture::capture::Capture;
 use capture::fault::CaptureFault;
 use capture::store::Store;

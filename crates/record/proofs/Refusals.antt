@@ -1,5 +1,5 @@
 -- The refusal of a record, from those of its parts, and the record where there is none.
-use Rattle.std.proofs.Common.{◌≡◌, ℕ, cond, List, ◌++◌, get_or, is_some, is_err, IfOk, Some, None, Ok, Err, Option, Result, sym, refl, ap, ◌∙◌, ap₂, arith}
+use Rattle.std.proofs.Common.{◌≡◌, ℕ, cond, List, ◌++◌, get_or, is_some, is_err, IfOk, Some, None, Err, Option, Result, sym, refl, ap, ◌∙◌, ap₂, arith}
 use Rattle.std.proofs.lemmas.Result.{IfOk-from_err}
 use Rattle.link.specs.declared.fault.Report.{Report}
 use Rattle.link.specs.Checks.{FailsFirst, first_fault}

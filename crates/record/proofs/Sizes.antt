@@ -1,5 +1,5 @@
 -- Every coding has a count of bytes that its kind allows.
-use Rattle.std.proofs.Common.{ℕ, get_or, IfSome, Some, None, Option, sym, refl, subst, ⊎_elim, lit≤}
+use Rattle.std.proofs.Common.{ℕ, get_or, IfSome, None, Option, sym, refl, subst, ⊎_elim, lit≤}
 use Rattle.std.specs.List.{AllByRecursion as All}
 use Rattle.std.proofs.ByRecursion.{All-get_or}
 use Rattle.std.proofs.lemmas.List.{get_or_past}

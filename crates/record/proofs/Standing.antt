@@ -1,16 +1,14 @@
 -- Where the parts of a record stand that nothing refuses.
-use Rattle.std.proofs.Common.{◌≡◌, ℕ, ◌+◌, ◌-◌, ◌<◌, ◌≤◌, Bool, true, false, cond, ltb, leb, List, [], ◌∷◌, length, get_or, is_some, Some, None, Option, sym, refl, ap, ◌∙◌, subst, ap₂, arith}
+use Rattle.std.proofs.Common.{◌≡◌, ℕ, ◌+◌, ◌-◌, ◌≤◌, Bool, true, false, cond, ltb, leb, List, length, get_or, is_some, Some, None, Option, sym, refl, ap, ◌∙◌, subst, ap₂, arith}
 use Rattle.std.proofs.lemmas.Bool.{leb-true, ltb-true}
 use Rattle.link.specs.declared.fault.Report.{Report}
 use Rattle.link.specs.Checks.{first_fault}
-use Rattle.link.proofs.Ordering.{or_else}
 use Rattle.quantity.specs.declared.meaning.Meaning.{Meaning}
 use Rattle.record.specs.declared.coding.Coding.{Coding}
 use Rattle.record.specs.declared.coding.Coding.TheVariants.{Fixed, Text}
 use Rattle.record.specs.declared.coding.Kind.TheVariants as kind
 use Rattle.record.specs.declared.decode.Decoded.{Decoded}
 use Rattle.record.specs.Chains.{chain_checks, chain_end, extensions}
-use Rattle.record.specs.Faults.{at, ended}
 use Rattle.record.specs.Records.{TextLast, Within, coding_at, data_checks, data_place, decoded, dib_checks, meaning_at, reading_of, record_of, record_refusal, vib_checks, vif_place}
 use Rattle.record.specs.Values.{value_checks, value_end, value_of}
 use Rattle.record.proofs.Refusals.{passed_parts}

@@ -1,4 +1,6 @@
 // The records in the body of a reply telegram.
+#![tactic(auto)]
+
 mod chain;
 mod coding;
 pub mod decode;

@@ -1,13 +1,11 @@
 -- From what each call of a master ensures to the step between its modes.
-use Rattle.std.proofs.Common.{◌≡◌, ℕ, suc, ◌-◌, Bool, true, false, not, List, [], ◌∷◌, ◌++◌, map, length, take, Some, Ok, Err, Option, Result, sym, refl, ap, ◌∙◌, subst, ap₂}
-use Rattle.link.specs.declared.fault.Report.{Report}
+use Rattle.std.proofs.Common.{◌≡◌, ℕ, suc, ◌-◌, Bool, true, not, List, [], ◌∷◌, ◌++◌, map, length, take, Some, Ok, Err, Result, sym, refl, ap, ◌∙◌, subst, ap₂}
 use Rattle.link.specs.Buffers.{filled}
 use Rattle.link.proofs.Filling.{take_filled}
 use Rattle.telegram.specs.declared.address.Address.{Address}
 use Rattle.telegram.specs.Addresses.{address_bytes}
 use Rattle.items.specs.Runs.{Reads}
 use Rattle.items.specs.Steps.{up_to_end}
-use Rattle.items.specs.Views.{View}
 use Rattle.line.specs.Meters.{Meter}
 use Rattle.line.specs.Buses.{fitting}
 use Rattle.line.specs.Exchanges.{State}
@@ -20,7 +18,7 @@ use Rattle.master.specs.Laws.{Clears, Finds}
 use Rattle.master.specs.Picks.{Continues, Fetches, Linked, Releases, Selects, Starts, flipped, telegram}
 use Rattle.master.specs.Requests.{fetch, pattern_of}
 use Rattle.master.specs.Searches.{Searched}
-use Rattle.master.proofs.Keeping.{Keeps, chain_keeps, exchange_keeps, keeps_self}
+use Rattle.master.proofs.Keeping.{Keeps, exchange_keeps, keeps_self}
 use Rattle.round.specs.declared.call.Call.{Call}
 use Rattle.round.specs.declared.call.Call.TheVariants as call
 use Rattle.round.specs.declared.call.Found.{Found}
@@ -29,7 +27,7 @@ use Rattle.round.specs.declared.call.Outcome.TheVariants as outcome
 use Rattle.round.specs.declared.call.Telegram.{Telegram}
 use Rattle.round.specs.declared.master.Master.{Master}
 use Rattle.round.specs.declared.master.Master.TheVariants as master
-use Rattle.round.specs.Modes.{Alone, Holds, House, Mode, SameHouse, StandsAt, house_of, line_of}
+use Rattle.round.specs.Modes.{House, Mode, SameHouse, house_of, line_of}
 use Rattle.round.specs.Promise.{Goes}
 use Rattle.round.specs.Steps.{HoldsTelegram, Lists, Step}
 

@@ -1,4 +1,6 @@
 // Reads a test house, makes its bench and the layers over it, and makes the calls on a master of the topmost.
+#![tactic(auto)]
+
 ghost use Rattle.std.specs.Prelude.{◌<◌, ◌≤◌, length};
 
 use bench::bench::Bench;

@@ -1,16 +1,15 @@
 -- Requests, from bytes to what is understood and back.
-use Rattle.std.proofs.Common.{◌≡◌, ℕ, true, false, cond, ◌&&◌, ◌||◌, eqb, ◌⊎◌, List, [], ◌∷◌, length, take, Some, None, Option, sym, refl, ap, ◌∙◌, subst, ap₂, inl, inr, ⊎_elim, arith}
-use Rattle.std.proofs.lemmas.Bool.{eq-eqb, cases_eq, ne_eqb}
+use Rattle.std.proofs.Common.{◌≡◌, ℕ, true, false, cond, ◌&&◌, ◌||◌, eqb, ◌⊎◌, List, [], ◌∷◌, length, take, Some, None, Option, sym, ap, ◌∙◌, subst, ap₂, inl, inr, ⊎_elim, arith}
+use Rattle.std.proofs.lemmas.Bool.{eq-eqb, cases_eq}
 use Rattle.std.proofs.lemmas.Bool.Decides.{nat_tests}
 use Rattle.link.specs.Buffers.{filled}
 use Rattle.link.specs.Frames.{Parts, ack, short, long, frame_of, written}
-use Rattle.link.specs.Laws.{Reads}
 use Rattle.link.proofs.Filling.{take_filled}
 use Rattle.link.proofs.Judging.{frame_is}
 use Rattle.telegram.specs.declared.pattern.Pattern.{Pattern}
 use Rattle.telegram.specs.declared.request.Request.{Request}
 use Rattle.telegram.specs.declared.request.Request.TheVariants.{Selection, Fetch, Release}
-use Rattle.telegram.specs.Requests.{Asks, selects, fetches_1, fetches_0, releases, Understands, request_bytes, request_frame, request_in, request_among, request_of}
+use Rattle.telegram.specs.Requests.{Asks, selects, fetches_1, fetches_0, releases, Understands, request_in, request_among, request_of}
 
 -- the request of the frame that the bytes are
 pub request_is : (bs : List ℕ) (p : Parts) → written p ≡ bs → request_of bs ≡ request_in p

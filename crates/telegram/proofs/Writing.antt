@@ -10,7 +10,7 @@ use Rattle.link.proofs.Filling.{take_filled}
 use Rattle.telegram.specs.declared.address.Address.{Address}
 use Rattle.telegram.specs.declared.reply.Reply.{Reply}
 use Rattle.telegram.specs.Addresses.{address_bytes}
-use Rattle.telegram.specs.Digits.{decimal, decimal_number}
+use Rattle.telegram.specs.Digits.{decimal_number}
 use Rattle.telegram.specs.Replies.{body_refusal, is_reply, reply_parts}
 use Rattle.telegram.proofs.Replying.{passes}
 

@@ -1,5 +1,5 @@
 -- How each fault of a reply telegram is told, and that a frame's fault rises whole.
-use Rattle.std.specs.Prelude.{◌≡◌, ℕ, Some, None, Ok, Err, Option, Result}
+use Rattle.std.specs.Prelude.{◌≡◌, Some, None, Ok, Err, Option, Result}
 use Rattle.link.specs.declared.fault.Layer.TheVariants as layer
 use Rattle.link.specs.declared.fault.Report.{Report}
 use Rattle.link.specs.Faults.{frame_report, report_at}

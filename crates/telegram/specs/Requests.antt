@@ -1,5 +1,5 @@
 -- The requests of a master, as frames and as bytes. All go to the address FD.
-use Rattle.std.specs.Prelude.{◌≡◌, ℕ, Bool, true, false, cond, ◌&&◌, ◌||◌, ◌⊎◌, List, [], ◌∷◌, length, Some, None, Option, ◌==◌}
+use Rattle.std.specs.Prelude.{◌≡◌, ℕ, true, false, cond, ◌&&◌, ◌||◌, ◌⊎◌, List, [], ◌∷◌, length, Some, None, Option, ◌==◌}
 use Rattle.link.specs.Frames.{Parts, ack, short, long, frame_of, written}
 use Rattle.telegram.specs.declared.pattern.Pattern.{Pattern}
 use Rattle.telegram.specs.declared.request.Request.{Request}

@@ -1,4 +1,6 @@
 // What travels in frames: addresses and the patterns that fit them, requests, reply telegrams.
+#![tactic(auto)]
+
 pub mod address;
 pub mod fault;
 pub mod pattern;

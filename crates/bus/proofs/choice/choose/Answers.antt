@@ -1,4 +1,4 @@
-use Rattle.std.proofs.Common.{◌≡◌, ◌+◌, ◌<◌, Bool, true, false, length, take, filter, sym, ◌∙◌, subst, arith}
+use Rattle.std.proofs.Common.{◌+◌, ◌<◌, Bool, true, false, length, take, filter, sym, ◌∙◌, subst, arith}
 use Rattle.telegram.specs.Patterns.{fits}
 use Rattle.line.specs.Meters.{Meter}
 use Rattle.bus.specs.declared.choice.Choice.{Choice}

@@ -1,4 +1,4 @@
-use Rattle.std.proofs.Common.{◌-◌, length, sym, ◌∙◌, arith}
+use Rattle.std.proofs.Common.{length, sym, ◌∙◌, arith}
 use Rattle.std.proofs.lemmas.List.{take_rest, drop_all}
 use Rattle.house.proofs.Scanning.{skipped_all, skipped_here, words_more}
 use Rattle.house.proofs.words.skip_spaces.Goals as goal

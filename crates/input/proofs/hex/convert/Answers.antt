@@ -1,4 +1,4 @@
-use Rattle.std.proofs.Common.{None, refl, ◌∙◌, arith}
+use Rattle.std.proofs.Common.{None, refl, arith}
 use Rattle.input.specs.Hex.{bytes_from}
 use Rattle.input.proofs.Pairs.{convert_open, convert_byte, convert_stray, convert_end, all_left}
 use Rattle.input.proofs.hex.convert.Goals as goal

@@ -1,4 +1,4 @@
-use Rattle.std.proofs.Common.{◌≡◌, ℕ, List, [], ◌∷◌, length, sym, refl, ap, ◌∙◌}
+use Rattle.std.proofs.Common.{◌≡◌, [], ◌∷◌, length, sym, refl, ap, ◌∙◌}
 use Rattle.link.specs.Buffers.{filled}
 use Rattle.line.specs.Layers.{last_reply}
 use Rattle.line.proofs.retry.give_up.Goals as goal

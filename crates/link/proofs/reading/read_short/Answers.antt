@@ -1,4 +1,4 @@
-use Rattle.std.proofs.Common.{sym, rules}
+use Rattle.std.proofs.Common.{sym}
 use Rattle.link.proofs.Passed.{ended, short_bytes}
 use Rattle.link.proofs.reading.read_short.Goals as goal
 

@@ -1,4 +1,4 @@
-use Rattle.master.proofs.Pushing.{Added, added, added_some}
+use Rattle.master.proofs.Pushing.{added, added_some}
 use Rattle.master.proofs.walk.add.Goals as goal
 
 pub returns-in-Some : goal.returns-in-Some

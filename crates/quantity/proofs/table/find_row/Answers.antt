@@ -1,4 +1,4 @@
-use Rattle.std.proofs.Common.{sym, ◌∙◌, arith}
+use Rattle.std.proofs.Common.{sym, ◌∙◌}
 use Rattle.quantity.proofs.Rows.{found, not_found, passed_by}
 use Rattle.quantity.proofs.table.find_row.Goals as goal
 

@@ -1,4 +1,4 @@
-use Rattle.std.proofs.Common.{get_or, arith, le-leb}
+use Rattle.std.proofs.Common.{arith, le-leb}
 use borrow.Author.Tests.{lt-leb}
 use Rattle.record.specs.Chains.{extended}
 use Rattle.record.proofs.Leading.{walk_on, walk_stop, walk_end}

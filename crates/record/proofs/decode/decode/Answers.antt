@@ -1,9 +1,6 @@
-use Rattle.std.proofs.Common.{◌≡◌, ℕ, Some, None, sym, refl, ap, ◌∙◌}
+use Rattle.std.proofs.Common.{Some, None, refl}
 use Rattle.std.proofs.lemmas.Result.{err_from_is_err_and}
-use Rattle.record.specs.Chains.{chain_end}
 use Rattle.record.specs.Faults.{record_report}
-use Rattle.record.specs.Values.{value_of}
-use Rattle.record.specs.Records.{reading_by}
 use Rattle.record.proofs.Refusals.{handed_on, record_is, refusal_order, refused_first, refused_last, refused_second}
 use Rattle.record.proofs.Standing.{within}
 use Rattle.record.specs.declared.decode.Decoded.{Decoded}

@@ -1,4 +1,4 @@
-use Rattle.std.proofs.Common.{◌≡◌, ℕ, ◌+◌, ◌*◌, ◌^◌, ◌<◌, ◌≤◌, length, ap, ◌∙◌, subst, arith}
+use Rattle.std.proofs.Common.{ℕ, ◌+◌, ◌*◌, ◌^◌, ◌<◌, ◌≤◌, length, ap, ◌∙◌, subst, arith}
 use Rattle.record.specs.Numbers.{magnitude}
 use Rattle.record.proofs.Positions.{Read, read_none, read_more, read_fits, read_all, pair, pair_by_pair, pow_most, length_magnitude}
 use Rattle.record.proofs.number.digits.Goals as goal

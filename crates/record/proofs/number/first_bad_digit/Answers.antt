@@ -1,4 +1,4 @@
-use Rattle.std.proofs.Common.{◌≡◌, sym, ap, ◌∙◌, arith}
+use Rattle.std.proofs.Common.{sym, ap, ◌∙◌, arith}
 use Rattle.telegram.specs.Digits.{decimal}
 use Rattle.record.specs.Numbers.{magnitude}
 use Rattle.record.proofs.Leading.{walk_on, walk_stop, walk_end}

@@ -1,4 +1,4 @@
-use Rattle.std.proofs.Common.{◌≡◌, ℕ, ◌+◌, ◌-◌, ◌*◌, ◌^◌, ◌<◌, ◌≤◌, length, negsuc, ◌-ℤ◌, ap, ◌∙◌, arith, w64, to_z, of_z}
+use Rattle.std.proofs.Common.{ℕ, ◌+◌, ◌-◌, ◌*◌, ◌^◌, ◌<◌, ◌≤◌, length, negsuc, ◌-ℤ◌, ap, ◌∙◌, arith, w64, to_z, of_z}
 use Rattle.record.specs.Numbers.{signed}
 use Rattle.record.proofs.Decimals.{from_half}
 use Rattle.record.proofs.Positions.{half_is, half_twice, pow_most}

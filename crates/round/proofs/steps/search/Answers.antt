@@ -1,4 +1,4 @@
-use Rattle.std.proofs.Common.{◌≡◌, ◌≤◌, length, take, sym, refl, ◌∙◌, arith, length-take-le}
+use Rattle.std.proofs.Common.{◌≤◌, length, take, sym, arith, length-take-le}
 use Rattle.master.proofs.Keeping.{chain_keeps}
 use Rattle.round.proofs.Placing.{drop_put, part_size, take_put, within}
 use Rattle.round.proofs.Stepping.{same_house, search_goes}

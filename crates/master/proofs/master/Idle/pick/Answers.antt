@@ -1,4 +1,4 @@
-use Rattle.std.proofs.Common.{◌≡◌, ℕ, true, ltb, List, sym, refl, ap, subst}
+use Rattle.std.proofs.Common.{ℕ, true, ltb, List, sym, refl, ap, subst}
 use Rattle.telegram.specs.Addresses.{address_bytes}
 use Rattle.telegram.proofs.Writing.{address_size}
 use Rattle.line.specs.Exchanges.{Exchanged}

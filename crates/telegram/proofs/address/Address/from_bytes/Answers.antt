@@ -1,7 +1,5 @@
-use Rattle.std.proofs.Common.{◌≡◌, take, Option, sym, subst, arith}
+use Rattle.std.proofs.Common.{◌≡◌, take, arith}
 use Rattle.std.proofs.lemmas.List.{take_all}
-use Rattle.link.specs.declared.fault.Report.{Report}
-use Rattle.link.specs.Checks.{FailsFirst}
 use Rattle.link.proofs.Ordering.{fails_first_at}
 use Rattle.telegram.specs.Digits.{digit_checks}
 use Rattle.telegram.proofs.address.Address.from_bytes.Goals as goal

@@ -1,5 +1,5 @@
-use Rattle.std.proofs.Common.{◌≡◌, sym, ap}
-use Rattle.link.specs.Frames.{long, parts, written}
+use Rattle.std.proofs.Common.{sym, ap}
+use Rattle.link.specs.Frames.{parts, written}
 use Rattle.telegram.proofs.Replying.{framed_long, framed_other}
 use Rattle.telegram.proofs.reply.Reply.from_frame.Goals as goal
 
