@@ -1,6 +1,6 @@
 -- What it means that every check before making holds, and what a new bench means.
 use Rattle.std.proofs.Common.{◌≡◌, ℕ, ◌+◌, ◌≤◌, Bool, true, false, cond, leb, List, [], ◌∷◌, length, is_ok, Some, None, Ok, Err, vec_items, vec_len, Decides, Option, Result, sym, refl, ap, ◌∙◌, arith}
-use Rattle.std.specs.List.{AllByRecursion as All}
+use Rattle.std.specs.List.{AllByRecursion}
 use Rattle.std.proofs.ByRecursion.{All-weaker}
 use Rattle.std.proofs.lemmas.Bool.{and_from, and_parts, cond-true, false≢true, le-leb, leb-true}
 use Rattle.link.specs.declared.fault.Report.{Report}
@@ -40,11 +40,11 @@ module _ {X : Type 0} (p : X → Bool) where
       let h = holds_then (p x) (first_fault (numbered p (n + 1) xs)) (bad n) e in
       and_from (p x) (each p xs) h.0 (each_checked (n + 1) xs h.1)
 
-  unchecked : (n : ℕ) (xs : List X) → All (λ x. p x ≡ true) xs → first_fault (numbered p n xs) ≡ None
+  unchecked : (n : ℕ) (xs : List X) → AllByRecursion (λ x. p x ≡ true) xs → first_fault (numbered p n xs) ≡ None
   unchecked n [] h = refl
   unchecked n (x ∷ xs) h = cond-true (p x) _ _ h.0 ∙ unchecked (n + 1) xs h.1
 
-each_passes : {X : Type 0} (p : X → Bool) (xs : List X) → All (λ x. p x ≡ true) xs → each p xs ≡ true
+each_passes : {X : Type 0} (p : X → Bool) (xs : List X) → AllByRecursion (λ x. p x ≡ true) xs → each p xs ≡ true
 each_passes p [] h = refl
 each_passes p (x ∷ xs) h = and_from (p x) (each p xs) h.0 (each_passes p xs h.1)
 

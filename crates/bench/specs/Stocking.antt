@@ -1,7 +1,7 @@
 -- Proof that rows that fit are meters: each telegram is a reply telegram that carries the row's address.
 use Rattle.std.specs.Prelude.{◌≡◌, ℕ, ◌+◌, ◌/◌, ◌%◌, Bool, true, List, [], ◌∷◌, ◌++◌, length, vec_items, vec_len, nat_le, refl}
 use Rattle.std.proofs.Common.{ap, ◌∙◌, arith}
-use Rattle.std.specs.List.{between, AllByRecursion as All}
+use Rattle.std.specs.List.{between, AllByRecursion}
 use Rattle.std.proofs.ByRecursion.{All-map, All-weaker}
 use Rattle.std.proofs.lemmas.List.{append_assoc, length-map}
 use Rattle.std.proofs.lemmas.Bool.{and_parts, leb-true}
@@ -17,7 +17,7 @@ use Rattle.bench.specs.declared.row.Row.{Row}
 use Rattle.bench.specs.Meters.{body_bytes, meter_of, meters_of, reply_of, telegram_of, telegram_with}
 use Rattle.bench.specs.Rows.{body_fits, each, row_fits}
 
-pub all_pass : {X : Type 0} (p : X → Bool) (xs : List X) → each p xs ≡ true → All (λ x. p x ≡ true) xs
+pub all_pass : {X : Type 0} (p : X → Bool) (xs : List X) → each p xs ≡ true → AllByRecursion (λ x. p x ≡ true) xs
 all_pass p [] e = tt
 all_pass p (x ∷ xs) e = let h = and_parts (p x) (each p xs) e in (h.0, all_pass p xs h.1)
 
@@ -46,6 +46,6 @@ row_stocked area r e =
       carry = All-map (Carries (address_bytes r.address)) (telegram_of area r) bodies (All-weaker (λ b. body_fits (length area) b ≡ true) (λ b. Carries (address_bytes r.address) (telegram_of area r b)) (λ b _. carries area r b) bodies (all_pass (body_fits (length area)) bodies q.1));
     }
 
-pub rows_stocked : (rows : List Row) (area : List ℕ) → each (row_fits (length area)) rows ≡ true → All Stocked (meters_of rows area)
+pub rows_stocked : (rows : List Row) (area : List ℕ) → each (row_fits (length area)) rows ≡ true → AllByRecursion Stocked (meters_of rows area)
 rows_stocked rows area e =
     All-map Stocked (meter_of area) rows (All-weaker (λ r. row_fits (length area) r ≡ true) (λ r. Stocked (meter_of area r)) (row_stocked area) rows (all_pass (row_fits (length area)) rows e))

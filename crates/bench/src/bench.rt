@@ -6,7 +6,7 @@ use crate::fault_codes::FaultCodes;
 use crate::table::RowTable;
 use bus::meter_bus::MeterBus;
 
-pub mod line;
+pub mod as_line;
 pub mod making;
 
 #[derive(Drop)]

@@ -1,6 +1,6 @@
 -- What meters of a table answer is one exchange of their line.
 use Rattle.std.proofs.Common.{◌≡◌, ℕ, ◌<◌, List, length, sym, refl, ap, ◌∙◌, subst, arith}
-use Rattle.std.specs.List.{AllByRecursion as All}
+use Rattle.std.specs.List.{AllByRecursion}
 use Rattle.link.specs.Buffers.{filled}
 use Rattle.line.specs.Meters.{Meter, Stocked}
 use Rattle.line.specs.Buses.{Bus, Due, Arrives, Damages}
@@ -51,5 +51,5 @@ module _ (b b' : Bus) (q : List ℕ) (n : ℕ) (buffer : List ℕ) (d : Due) (he
       }
 
 -- meters that have heard nothing are sound
-pub rest_sound : (ms : List Meter) (run : ℕ) → All Stocked ms → Sound (record { bus = at_rest ms; run = run; streak = 0 })
+pub rest_sound : (ms : List Meter) (run : ℕ) → AllByRecursion Stocked ms → Sound (record { bus = at_rest ms; run = run; streak = 0 })
 rest_sound ms run h = record { stocked = h; turned = refl; limited = omega arith }

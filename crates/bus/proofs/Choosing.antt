@@ -1,6 +1,6 @@
 -- Choosing meters row by row.
 use Rattle.std.proofs.Common.{◌≡◌, ℕ, ◌+◌, ◌<◌, ◌≤◌, Bool, true, false, cond, List, [], ◌∷◌, ◌++◌, length, take, Some, filter, sym, ap, ◌∙◌, subst, arith, MatchOption}
-use Rattle.std.specs.List.{AllByRecursion as All, slice_get}
+use Rattle.std.specs.List.{AllByRecursion, slice_get}
 use Rattle.std.proofs.lemmas.List.Elements.{filter_more}
 use Rattle.std.proofs.ByRecursion.{All-get_or}
 use Rattle.std.proofs.lemmas.List.{take_all, append-nil, length-append}
@@ -35,7 +35,7 @@ pub tells_all : (p : Meter → Bool) (ms : List Meter) (n : ℕ) (choice : Choic
 tells_all p ms n choice h o = subst (λ l. Tells ms (filter p l) choice) (take_all n ms h) o
 
 -- the only meter's telegrams, of which there are some
-pub only_has : (ms chosen : List Meter) (row n : ℕ) → All Stocked ms → Tells ms chosen (Only row) → n ≡ length (meter_at ms row).telegrams → OnlyHas chosen (Some n) × (0 < n)
+pub only_has : (ms chosen : List Meter) (row n : ℕ) → AllByRecursion Stocked ms → Tells ms chosen (Only row) → n ≡ length (meter_at ms row).telegrams → OnlyHas chosen (Some n) × (0 < n)
 only_has ms chosen row n stocked t e =
     let some : 1 ≤ length (meter_at ms row).telegrams = (All-get_or Stocked ms row (record { address = []; telegrams = [] }) t.0 stocked).some_telegrams in
     (subst (λ k. OnlyHas k (Some n)) (sym t.1) e, omega arith)

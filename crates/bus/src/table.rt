@@ -1,7 +1,7 @@
 // A table of meters, one to a row.
 ghost use Rattle.std.specs.Prelude.{◌≡◌, List, length};
 ghost use Rattle.std.specs.Option.{option_map};
-ghost use Rattle.std.specs.List.{AllByRecursion as All};
+ghost use Rattle.std.specs.List.{AllByRecursion};
 ghost use Rattle.link.specs.Buffers.{filled};
 ghost use Rattle.telegram.specs.Addresses.{address_bytes};
 ghost use Rattle.line.specs.Meters.{Meter, Stocked};
@@ -15,7 +15,7 @@ pub trait Table {
     ghost meters: { Self → List Meter };
 
     // What holds of every table. A member and no law, so that a table may borrow.
-    ghost stocked: { (x : Self) → All Stocked (meters x) };
+    ghost stocked: { (x : Self) → AllByRecursion Stocked (meters x) };
 
     // The number of rows.
     fn count(&self) -> usize

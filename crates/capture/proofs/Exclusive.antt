@@ -1,6 +1,6 @@
 -- Bytes that record meters have no fault.
 use Rattle.std.proofs.Common.{◌≡◌, ℕ, ◌+◌, ◌<◌, ◌≤◌, List, [], ◌∷◌, ◌++◌, length, get_or, None, sym, refl, ap, ◌∙◌, subst, ap₂, arith}
-use Rattle.std.specs.List.{AllByRecursion as All}
+use Rattle.std.specs.List.{AllByRecursion}
 use Rattle.std.proofs.lemmas.List.{append_assoc, length-append, take_at}
 use Rattle.line.specs.Meters.{Meter, Stocked, address_in}
 use Rattle.telegram.specs.Replies.{reply_refusal}
@@ -18,7 +18,7 @@ record Longer (ts us : List (List ℕ)) (rest : List ℕ) : Type 0 where
   begins_so : us ≡ ts ++ more
   after : end_to_end more ≡ rest
 
-longer_cut : (ts us : List (List ℕ)) (rest : List ℕ) → All Telegram ts → All Telegram us → end_to_end us ≡ end_to_end ts ++ rest → Longer ts us rest
+longer_cut : (ts us : List (List ℕ)) (rest : List ℕ) → AllByRecursion Telegram ts → AllByRecursion Telegram us → end_to_end us ≡ end_to_end ts ++ rest → Longer ts us rest
 longer_cut [] us rest h k e = record { more = us; begins_so = refl; after = e }
 longer_cut (t ∷ ts) [] rest h k e = absurd (none_left t (end_to_end ts ++ rest) h.0 (e ∙ append_assoc t (end_to_end ts) rest))
 longer_cut (t ∷ ts) (u ∷ us) rest h k e =
@@ -32,7 +32,7 @@ telegram_first t rest h =
     let n : length t ≡ 6 + get_or (t ++ rest) 1 0 = omega (arith, (reply_length t h).0, second t rest h) in take_at t rest _ n
 
 -- telegrams of one address end before a change, and later than some of them
-reach : (a t : List ℕ) (xs ys r more : List (List ℕ)) → Changes a r → All (From a) ys → address_in t ≡ a → xs ++ r ≡ ys ++ t ∷ more → length ys < length xs
+reach : (a t : List ℕ) (xs ys r more : List (List ℕ)) → Changes a r → AllByRecursion (From a) ys → address_in t ≡ a → xs ++ r ≡ ys ++ t ∷ more → length ys < length xs
 reach a t [] [] r more c h f e = absurd (subst (Changes a) e c f)
 reach a t [] (y ∷ ys) r more c h f e = absurd (subst (Changes a) e c h.0)
 reach a t (x ∷ xs) [] r more c h f e = omega arith
@@ -41,13 +41,13 @@ reach a t (x ∷ xs) (y ∷ ys) r more c h f e =
     let l = reach a t xs ys r more c h.1 f after in omega arith
 
 -- the first meter's telegrams, up to a change of address
-module _ (b m : Meter) (ms : List Meter) (rest : List (List ℕ)) (hb : Stocked b) (hm : Stocked m) (hs : All Stocked ms) (d : Differs m ms) (e : m.telegrams ++ telegrams_of ms ≡ b.telegrams ++ rest) where
+module _ (b m : Meter) (ms : List Meter) (rest : List (List ℕ)) (hb : Stocked b) (hm : Stocked m) (hs : AllByRecursion Stocked ms) (d : Differs m ms) (e : m.telegrams ++ telegrams_of ms ≡ b.telegrams ++ rest) where
   same : m.address ≡ b.address
   same =
       same_address m.address b.address m.telegrams b.telegrams (telegrams_of ms) rest hm.some_telegrams hb.some_telegrams (from_meter m hm) (from_meter b hb) e
 
-  from_same : All (From b.address) m.telegrams
-  from_same = subst (λ x. All (From x) m.telegrams) same (from_meter m hm)
+  from_same : AllByRecursion (From b.address) m.telegrams
+  from_same = subst (λ x. AllByRecursion (From x) m.telegrams) same (from_meter m hm)
 
   changes_same : Changes b.address (telegrams_of ms)
   changes_same = subst (λ x. Changes x (telegrams_of ms)) same (changes_after m ms hs d)
@@ -66,18 +66,18 @@ changes_append a (t ∷ ts) more n c = c
 some_telegram : (m : Meter) (ms : List Meter) → Stocked m → 1 ≤ length (telegrams_of (m ∷ ms))
 some_telegram m ms h = omega (arith, h.some_telegrams, length-append m.telegrams (telegrams_of ms))
 
-some_before : (front : List Meter) (b : Meter) → All Stocked (front ++ b ∷ []) → 1 ≤ length (telegrams_of (front ++ b ∷ []))
+some_before : (front : List Meter) (b : Meter) → AllByRecursion Stocked (front ++ b ∷ []) → 1 ≤ length (telegrams_of (front ++ b ∷ []))
 some_before [] b h = some_telegram b [] h.0
 some_before (c ∷ front) b h = some_telegram c (front ++ b ∷ []) h.0
 
 -- a change of address after the first of several meters, or at the next telegram
-changes_next : (b : Meter) (bs : List Meter) (t : List ℕ) (more : List (List ℕ)) → All Stocked bs → Differs b bs → Unlike (b ∷ bs) (address_in t) → Changes b.address (telegrams_of bs ++ t ∷ more)
+changes_next : (b : Meter) (bs : List Meter) (t : List ℕ) (more : List (List ℕ)) → AllByRecursion Stocked bs → Differs b bs → Unlike (b ∷ bs) (address_in t) → Changes b.address (telegrams_of bs ++ t ∷ more)
 changes_next b [] t more h d u = λ e. u [] b refl (sym e)
 changes_next b (c ∷ bs) t more h d u = changes_append b.address (telegrams_of (c ∷ bs)) (t ∷ more) (some_telegram c bs h.0) (changes_after b (c ∷ bs) h d)
 
 module _ (t : List ℕ) (more : List (List ℕ)) where
   -- the next telegram begins a meter more
-  beyond : (bs ms : List Meter) → All Stocked bs → All Stocked ms → Apart bs → Apart ms → Unlike bs (address_in t) → telegrams_of ms ≡ telegrams_of bs ++ t ∷ more → length bs < length ms
+  beyond : (bs ms : List Meter) → AllByRecursion Stocked bs → AllByRecursion Stocked ms → Apart bs → Apart ms → Unlike bs (address_in t) → telegrams_of ms ≡ telegrams_of bs ++ t ∷ more → length bs < length ms
   beyond [] [] hb hm ab am u e = let z = ap length e in absurd (omega arith)
   beyond [] (m ∷ ms) hb hm ab am u e = omega arith
   beyond (b ∷ bs) [] hb hm ab am u e =
@@ -89,7 +89,7 @@ module _ (t : List ℕ) (more : List (List ℕ)) where
       omega arith
 
   -- the next telegram is a 17th
-  overfull : (front : List Meter) (b : Meter) (ms : List Meter) → All Stocked (front ++ b ∷ []) → All Stocked ms → Apart (front ++ b ∷ []) → Apart ms → b.address ≡ address_in t → length b.telegrams ≡ 16 → telegrams_of ms ≡ telegrams_of (front ++ b ∷ []) ++ t ∷ more → ⊥
+  overfull : (front : List Meter) (b : Meter) (ms : List Meter) → AllByRecursion Stocked (front ++ b ∷ []) → AllByRecursion Stocked ms → Apart (front ++ b ∷ []) → Apart ms → b.address ≡ address_in t → length b.telegrams ≡ 16 → telegrams_of ms ≡ telegrams_of (front ++ b ∷ []) ++ t ∷ more → ⊥
   overfull [] b [] hb hm ab am a n e = no_telegrams b.telegrams ([] ++ t ∷ more) hb.0.some_telegrams (e ∙ append_assoc b.telegrams [] (t ∷ more))
   overfull [] b (m ∷ ms) hb hm ab am a n e =
       let e' : m.telegrams ++ telegrams_of ms ≡ b.telegrams ++ t ∷ more = e ∙ append_assoc b.telegrams [] (t ∷ more) in
@@ -104,18 +104,18 @@ module _ (t : List ℕ) (more : List (List ℕ)) where
       (changes_append c.address (telegrams_of bs) (t ∷ more) (some_before front b hb.1) (changes_after c bs hb.1 ab.0)) in
       overfull front b ms hb.1 hm.1 ab.1 am.1 a n p
 
-  crowded_out : (bs ms : List Meter) → All Stocked bs → All Stocked ms → Apart bs → Apart ms → length ms ≤ 250 → Crowded bs (address_in t) → telegrams_of ms ≡ telegrams_of bs ++ t ∷ more → ⊥
+  crowded_out : (bs ms : List Meter) → AllByRecursion Stocked bs → AllByRecursion Stocked ms → Apart bs → Apart ms → length ms ≤ 250 → Crowded bs (address_in t) → telegrams_of ms ≡ telegrams_of bs ++ t ∷ more → ⊥
   crowded_out bs ms hb hm ab am few (Crowded.full_meter front b q a n) e =
-      overfull front b ms (subst (All Stocked) q hb) hm (subst Apart q ab) am a n (e ∙ ap (λ x. telegrams_of x ++ t ∷ more) q)
+      overfull front b ms (subst (AllByRecursion Stocked) q hb) hm (subst Apart q ab) am a n (e ∙ ap (λ x. telegrams_of x ++ t ∷ more) q)
   crowded_out bs ms hb hm ab am few (Crowded.full_line u n) e =
       let l = beyond bs ms hb hm ab am u e in omega arith
 
-all_back : {X : Type 0} (P : X → Type 0) (xs ys : List X) → All P (xs ++ ys) → All P ys
+all_back : {X : Type 0} (P : X → Type 0) (xs ys : List X) → AllByRecursion P (xs ++ ys) → AllByRecursion P ys
 all_back P [] ys h = h
 all_back P (x ∷ xs) ys h = all_back P xs ys h.1
 
 -- a telegram that could not be taken is in no recording
-never : (cause : Cause) (bs ms : List Meter) (rest : List ℕ) (more : List (List ℕ)) → end_to_end more ≡ rest → 1 ≤ length rest → All Telegram more → telegrams_of ms ≡ telegrams_of bs ++ more → All Stocked bs → Apart bs → Recorded (end_to_end (telegrams_of ms)) ms → Blocked bs (first_telegram rest) cause → ⊥
+never : (cause : Cause) (bs ms : List Meter) (rest : List ℕ) (more : List (List ℕ)) → end_to_end more ≡ rest → 1 ≤ length rest → AllByRecursion Telegram more → telegrams_of ms ≡ telegrams_of bs ++ more → AllByRecursion Stocked bs → Apart bs → Recorded (end_to_end (telegrams_of ms)) ms → Blocked bs (first_telegram rest) cause → ⊥
 never cause bs ms rest [] a n h e hb ab hm b = omega (arith, ap length a)
 never (Reply f) bs ms rest (t ∷ more) a n h e hb ab hm b =
     let first : first_telegram rest ≡ t = ap first_telegram (sym a) ∙ telegram_first t (end_to_end more) h.0 in
@@ -131,5 +131,5 @@ no_refusal bytes e ms r h =
     let bs = r.before in
     let all = all_telegrams ms h.stocked in
     let l = longer_cut (telegrams_of bs) (telegrams_of ms) r.rest (all_telegrams bs r.taken.stocked) all (h.whole ∙ r.split) in
-    never e.cause bs ms r.rest l.more l.after r.some_left (all_back Telegram (telegrams_of bs) l.more (subst (All Telegram) l.begins_so all)) l.begins_so
+    never e.cause bs ms r.rest l.more l.after r.some_left (all_back Telegram (telegrams_of bs) l.more (subst (AllByRecursion Telegram) l.begins_so all)) l.begins_so
     r.taken.stocked r.taken.apart (subst (λ x. Recorded x ms) (sym h.whole) h) r.blocked

@@ -1,6 +1,6 @@
 -- Recorded meters, with one telegram more.
 use Rattle.std.proofs.Common.{◌≡◌, ℕ, ◌<◌, ◌≤◌, true, List, [], ◌∷◌, ◌++◌, length, sym, refl, ap, ◌∙◌, subst, arith}
-use Rattle.std.specs.List.{flat_map, AllByRecursion as All}
+use Rattle.std.specs.List.{flat_map, AllByRecursion}
 use Rattle.std.proofs.lemmas.List.{append_assoc, flat_map_more, length_push}
 use Rattle.std.proofs.ByRecursion.{All-push}
 use Rattle.telegram.specs.Replies.{is_reply}
@@ -11,7 +11,7 @@ use Rattle.capture.specs.Rows.{Added, longer}
 pub joined_push : {X A : Type 0} (f : X → List A) (xs : List X) (x : X) → flat_map f (xs ++ x ∷ []) ≡ flat_map f xs ++ f x
 joined_push f xs x = sym (flat_map_more f [] xs x)
 
-all_front : {X : Type 0} (P : X → Type 0) (xs : List X) (x : X) → All P (xs ++ x ∷ []) → All P xs × P x
+all_front : {X : Type 0} (P : X → Type 0) (xs : List X) (x : X) → AllByRecursion P (xs ++ x ∷ []) → AllByRecursion P xs × P x
 all_front P [] x h = (tt, h.0)
 all_front P (y ∷ xs) x h = let r = all_front P xs x h.1 in ((h.0, r.0), r.1)
 
@@ -48,14 +48,14 @@ longer_stocked m t h few r e =
       carry = All-push (Carries m.address) m.telegrams t h.carry (r, e);
     }
 
-added_stocked : (ms ms' : List Meter) (t a : List ℕ) → All Stocked ms → is_reply t ≡ true → address_in t ≡ a → Added ms t a ms' → All Stocked ms'
+added_stocked : (ms ms' : List Meter) (t a : List ℕ) → AllByRecursion Stocked ms → is_reply t ≡ true → address_in t ≡ a → Added ms t a ms' → AllByRecursion Stocked ms'
 added_stocked ms ms' t a h r c (Added.joins front m e same few e') =
-    let p = all_front Stocked front m (subst (All Stocked) e h) in
-    subst (All Stocked) (sym e') (All-push Stocked front (longer m t) p.0 (longer_stocked m t p.1 few r (c ∙ sym same)))
+    let p = all_front Stocked front m (subst (AllByRecursion Stocked) e h) in
+    subst (AllByRecursion Stocked) (sym e') (All-push Stocked front (longer m t) p.0 (longer_stocked m t p.1 few r (c ∙ sym same)))
 added_stocked ms ms' t a h r c (Added.begins u _ e') =
     let n : Meter = record { address = a; telegrams = t ∷ [] } in
     let s : Stocked n = record { some_telegrams = omega arith; few_telegrams = omega arith; carry = ((r, c), tt) } in
-    subst (All Stocked) (sym e') (All-push Stocked ms n h s)
+    subst (AllByRecursion Stocked) (sym e') (All-push Stocked ms n h s)
 
 added_few : (ms ms' : List Meter) (t a : List ℕ) → length ms ≤ 250 → Added ms t a ms' → length ms' ≤ 250
 added_few ms ms' t a h (Added.joins front m e _ _ e') =

@@ -1,6 +1,6 @@
 -- The rows of a capture, and the meters in them.
 use Rattle.std.proofs.Common.{◌≡◌, ℕ, ◌<◌, ◌≤◌, List, [], length, get_or, Some, None, sym, ap, ◌∙◌, arith}
-use Rattle.std.specs.List.{AllByRecursion as All, slice_get}
+use Rattle.std.specs.List.{AllByRecursion, slice_get}
 use Rattle.std.proofs.ByRecursion.{All-get_or}
 use Rattle.std.proofs.lemmas.List.{get_or-map, get_or_past, get_or-take, length-take}
 use Rattle.std.proofs.lemmas.Option.{slice_get-get_or, slice_get_past}
@@ -51,7 +51,7 @@ module _ (bytes : List ℕ) (rows : List Row) (i : ℕ) where
         telegram_is = ap (λ m. get_or m.telegrams place []) meter_is ∙ of_meter
 
         -- a reply telegram has some bytes
-        pub telegram_starts : All Stocked (meters_of bytes rows) → get_or r.starts place 0 < length bytes
+        pub telegram_starts : AllByRecursion Stocked (meters_of bytes rows) → get_or r.starts place 0 < length bytes
         telegram_starts s =
             let m = meter_at (meters_of bytes rows) i in
             let stocked = All-get_or Stocked (meters_of bytes rows) i _ (omega (arith, h.0, length_meters bytes rows)) s in

@@ -1,6 +1,6 @@
 -- Which meters some bytes record, and why some bytes record none.
 use Rattle.std.specs.Prelude.{◌≡◌, ℕ, ◌+◌, ◌≤◌, List, [], ◌∷◌, ◌++◌, length, Some, None, ◌≢◌}
-use Rattle.std.specs.List.{flat_map, AllByRecursion as All}
+use Rattle.std.specs.List.{flat_map, AllByRecursion}
 use Rattle.telegram.specs.Replies.{reply_refusal}
 use Rattle.line.specs.Meters.{Meter, Stocked, address_in}
 use Rattle.capture.specs.declared.fault.Cause.{Cause}
@@ -31,7 +31,7 @@ Apart (m ∷ ms) = Differs m ms × Apart ms
 pub record Recorded (bytes : List ℕ) (ms : List Meter) : Type 0 where
   pub whole : end_to_end (telegrams_of ms) ≡ bytes
   pub apart : Apart ms
-  pub stocked : All Stocked ms
+  pub stocked : AllByRecursion Stocked ms
   pub few : length ms ≤ 250
 
 -- the last meter, if there is one, has another address

@@ -7,7 +7,7 @@ ghost use Rattle.capture.specs.Recordings.{telegrams_of};
 use crate::recording::Recording;
 use bus::meter_bus::MeterBus;
 
-pub mod line;
+pub mod as_line;
 pub mod making;
 
 #[derive(Drop)]

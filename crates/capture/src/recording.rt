@@ -1,5 +1,5 @@
 // The meters that a capture's bytes record.
-ghost use Rattle.std.specs.List.{AllByRecursion as All};
+ghost use Rattle.std.specs.List.{AllByRecursion};
 ghost use Rattle.line.specs.Meters.{Stocked};
 ghost use Rattle.capture.specs.Rows.{meters_of};
 
@@ -9,5 +9,5 @@ use crate::row::Row;
 pub(crate) struct Recording {
     pub(crate) bytes: Vec<u8>,
     pub(crate) rows: Vec<Row>,
-    ghost stocked: { ∥ All Stocked (meters_of bytes.items rows.items) ∥₁ },
+    ghost stocked: { ∥ AllByRecursion Stocked (meters_of bytes.items rows.items) ∥₁ },
 }

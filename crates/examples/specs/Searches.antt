@@ -1,6 +1,6 @@
 -- Worked examples of searches, computed.
 use Rattle.std.specs.Prelude.{ℕ, List, [], ◌∷◌}
-use Rattle.std.specs.List.{AllByRecursion as All}
+use Rattle.std.specs.List.{AllByRecursion}
 use Rattle.search.specs.Examples.{EndsWith, first, second}
 use Rattle.search.specs.Verdicts.{Entry, only, shared}
 
@@ -21,4 +21,4 @@ search_examples =
     ∷ []
 
 abbrev pub AllEndSo : Type 0
-AllEndSo = All EndsSo search_examples
+AllEndSo = AllByRecursion EndsSo search_examples

@@ -3,9 +3,9 @@ use Rattle.std.proofs.Common.{◌≡◌, ℕ, Bool, true, false, List, Some, Non
 use Rattle.std.proofs.lemmas.Bool.{true≢false}
 use Rattle.input.specs.Lines.{content}
 use Rattle.bench.specs.declared.row.Row.{Row}
-use Rattle.house.specs.declared.line.HouseLine.{HouseLine}
-use Rattle.house.specs.declared.line.HouseLine.TheVariants.{Meter}
-use Rattle.house.specs.declared.line.HouseLine.TheVariants as said_as
+use Rattle.house.specs.declared.house_line.HouseLine.{HouseLine}
+use Rattle.house.specs.declared.house_line.HouseLine.TheVariants.{Meter}
+use Rattle.house.specs.declared.house_line.HouseLine.TheVariants as said_as
 use Rattle.round.specs.declared.call.Call.{Call}
 use Rattle.house.specs.Houses.{Parts, RefusesLine, TakesLine, takes, with_statement}
 use Rattle.house.specs.Lines.{Statement, asked, call, listed, meter, said, statement}

@@ -1,6 +1,6 @@
 -- Values of words, one after another.
 use Rattle.std.proofs.Common.{◌≡◌, ℕ, ◌+◌, ◌<◌, ◌≤◌, Bool, true, false, cond, ◌&&◌, eqb, List, [], ◌∷◌, ◌++◌, map, length, get_or, drop, Some, None, Option, sym, refl, ap, ◌∙◌, ap₂, arith}
-use Rattle.std.specs.List.{AllByRecursion as All}
+use Rattle.std.specs.List.{AllByRecursion}
 use Rattle.std.proofs.lemmas.List.{append_assoc, append-nil, drop-drop, get_or-drop, nil_from_length}
 use Rattle.std.proofs.lemmas.Bool.{and_from, and_right, cond_both, cond-false, cond-true}
 use Rattle.telegram.specs.declared.address.Address.{Address}
@@ -20,20 +20,20 @@ none_cond true x e = let z : ◌≡◌ {A = ℕ} 0 1 = cc in absurd (omega arith
 none_cond false x e = refl
 
 -- no word is empty
-all_and_word : (w : List ℕ) (ws : List (List ℕ)) → All (λ v. 0 < length v) ws → All (λ v. 0 < length v) (and_word w ws)
+all_and_word : (w : List ℕ) (ws : List (List ℕ)) → AllByRecursion (λ v. 0 < length v) ws → AllByRecursion (λ v. 0 < length v) (and_word w ws)
 all_and_word [] ws a = a
 all_and_word (c ∷ w) ws a = (omega arith, a)
 
-all_later : (cs : List ℕ) → All (λ v. 0 < length v) (later_words cs)
+all_later : (cs : List ℕ) → AllByRecursion (λ v. 0 < length v) (later_words cs)
 all_later [] = tt
 all_later (c ∷ cs) =
-    cond_both (eqb c 0x20) (and_word (before 0x20 cs) (later_words cs)) (later_words cs) (All (λ v. 0 < length v))
+    cond_both (eqb c 0x20) (and_word (before 0x20 cs) (later_words cs)) (later_words cs) (AllByRecursion (λ v. 0 < length v))
     (λ _. all_and_word (before 0x20 cs) (later_words cs) (all_later cs)) (λ _. all_later cs)
 
-pub all_words : (cs : List ℕ) → All (λ v. 0 < length v) (words cs)
+pub all_words : (cs : List ℕ) → AllByRecursion (λ v. 0 < length v) (words cs)
 all_words cs = all_and_word (before 0x20 cs) (later_words cs) (all_later cs)
 
-none_left : (ws : List (List ℕ)) → All (λ v. 0 < length v) ws → length (get_or ws 0 []) ≤ 0 → ws ≡ []
+none_left : (ws : List (List ℕ)) → AllByRecursion (λ v. 0 < length v) ws → length (get_or ws 0 []) ≤ 0 → ws ≡ []
 none_left [] a h = refl
 none_left (w ∷ ws) a h = absurd (omega (arith, a.0))
 

@@ -1,6 +1,6 @@
 -- A text is read as a statement exactly where it spells it.
 use Rattle.std.proofs.Common.{◌≡◌, ℕ, ◌<◌, Bool, true, false, cond, not, ◌&&◌, eqb, ltb, List, [], ◌∷◌, ◌++◌, map, length, drop, Some, None, codes, Option, sym, refl, ap, ◌∙◌, subst, ⊎_elim, arith}
-use Rattle.std.specs.List.{AllByRecursion as All}
+use Rattle.std.specs.List.{AllByRecursion}
 use Rattle.std.specs.Str.{bytes_eq}
 use Rattle.std.proofs.lemmas.Slice.Eq.{bytes_eq-Decides}
 use Rattle.std.proofs.lemmas.List.{append-nil, drop_at}
@@ -28,13 +28,13 @@ joined (c ∷ cs) =
     (λ n. ap (λ xs. c ∷ xs) (joined cs) ∙ ap (λ b. b ++ drop (length b) (c ∷ cs)) (sym (cond-false (eqb c 0x20) [] (c ∷ before 0x20 cs) (ne_eqb c 0x20 n))))
     (cases_eq c 0x20)
 
-unspaced : (cs : List ℕ) → All (λ c. c ≡ 0x20 → ⊥) (before 0x20 cs)
+unspaced : (cs : List ℕ) → AllByRecursion (λ c. c ≡ 0x20 → ⊥) (before 0x20 cs)
 unspaced [] = tt
 unspaced (c ∷ cs) =
-    cond_both (eqb c 0x20) [] (c ∷ before 0x20 cs) (All (λ x. x ≡ 0x20 → ⊥)) (λ _. tt) (λ e. (eqb-false c 0x20 e, unspaced cs))
+    cond_both (eqb c 0x20) [] (c ∷ before 0x20 cs) (AllByRecursion (λ x. x ≡ 0x20 → ⊥)) (λ _. tt) (λ e. (eqb-false c 0x20 e, unspaced cs))
 
 -- the words behind the first are fields
-one_field : (w cs rest : List ℕ) (ws : List (List ℕ)) → All (λ c. c ≡ 0x20 → ⊥) w → cs ≡ w ++ rest → Fields rest ws → Fields (0x20 ∷ cs) (and_word w ws)
+one_field : (w cs rest : List ℕ) (ws : List (List ℕ)) → AllByRecursion (λ c. c ≡ 0x20 → ⊥) w → cs ≡ w ++ rest → Fields rest ws → Fields (0x20 ∷ cs) (and_word w ws)
 one_field [] cs rest ws a e f =
     let P : List ℕ → Type 0 = λ x. Fields (0x20 ∷ x) ws in
     subst P (sym e) (space f)
@@ -62,12 +62,12 @@ fields_behind cs =
     subst P (sym (rest_words cs)) (later_fields cs)
 
 -- and fields are words
-before_word : (w cs : List ℕ) → All (λ c. c ≡ 0x20 → ⊥) w → before 0x20 (w ++ cs) ≡ w ++ before 0x20 cs
+before_word : (w cs : List ℕ) → AllByRecursion (λ c. c ≡ 0x20 → ⊥) w → before 0x20 (w ++ cs) ≡ w ++ before 0x20 cs
 before_word [] cs a = refl
 before_word (c ∷ w) cs a =
     cond-false (eqb c 0x20) [] (c ∷ before 0x20 (w ++ cs)) (ne_eqb c 0x20 a.0) ∙ ap (λ xs. c ∷ xs) (before_word w cs a.1)
 
-later_word : (w cs : List ℕ) → All (λ c. c ≡ 0x20 → ⊥) w → later_words (w ++ cs) ≡ later_words cs
+later_word : (w cs : List ℕ) → AllByRecursion (λ c. c ≡ 0x20 → ⊥) w → later_words (w ++ cs) ≡ later_words cs
 later_word [] cs a = refl
 later_word (c ∷ w) cs a =
     cond-false (eqb c 0x20) (and_word (before 0x20 (w ++ cs)) (later_words (w ++ cs))) (later_words (w ++ cs)) (ne_eqb c 0x20 a.0) ∙ later_word w cs a.1
@@ -163,31 +163,31 @@ pub record Alone (most : ℕ) (ws : List (List ℕ)) (n : ℕ) : Type 0 where
   pub number : is_decimal most word ≡ true
   pub value : decimal_value word ≡ n
 
-alone : (most : ℕ) (ws : List (List ℕ)) (n : ℕ) → All (λ w. 0 < length w) ws → eqb (length (word_at ws 1)) 0 ≡ true → is_decimal most (word_at ws 0) ≡ true → decimal_value (word_at ws 0) ≡ n → Alone most ws n
+alone : (most : ℕ) (ws : List (List ℕ)) (n : ℕ) → AllByRecursion (λ w. 0 < length w) ws → eqb (length (word_at ws 1)) 0 ≡ true → is_decimal most (word_at ws 0) ≡ true → decimal_value (word_at ws 0) ≡ n → Alone most ws n
 alone most [] n a e t v = never t
 alone most (w ∷ []) n a e t v = record { word = w; only = refl; number = t; value = v }
 alone most (w ∷ x ∷ ws) n a e t v = absurd (omega (arith, a.1.0, eqb-true (length x) 0 e))
 
-sound_number : (most : ℕ) (ws : List (List ℕ)) (n : ℕ) → All (λ w. 0 < length w) ws → number_in most ws ≡ Some n → Alone most ws n
+sound_number : (most : ℕ) (ws : List (List ℕ)) (n : ℕ) → AllByRecursion (λ w. 0 < length w) ws → number_in most ws ≡ Some n → Alone most ws n
 unfolding number_in
 sound_number most ws n a h =
     let t = tested (eqb (length (word_at ws 1)) 0 && is_decimal most (word_at ws 0)) (decimal_value (word_at ws 0)) n h in
     let p = and_parts (eqb (length (word_at ws 1)) 0) _ t.0 in
     alone most ws n a p.0 p.1 t.1
 
-with_alone : (f : ℕ → Statement) (most : ℕ) (ws : List (List ℕ)) (s : Statement) (o : Option ℕ) → number_in most ws ≡ o → All (λ w. 0 < length w) ws → with_number f o ≡ Some s → (n : ℕ) × (Alone most ws n × (f n ≡ s))
+with_alone : (f : ℕ → Statement) (most : ℕ) (ws : List (List ℕ)) (s : Statement) (o : Option ℕ) → number_in most ws ≡ o → AllByRecursion (λ w. 0 < length w) ws → with_number f o ≡ Some s → (n : ℕ) × (Alone most ws n × (f n ≡ s))
 with_alone f most ws s None e a h = let z : ◌≡◌ {A = ℕ} 0 1 = cc in absurd (omega arith)
 with_alone f most ws s (Some n) e a h = (n, (sound_number most ws n a e, cc))
 
 -- a call
-sound_call : (a : Asked) (cs : List ℕ) (ws : List (List ℕ)) (s : Statement) → Fields cs ws → All (λ w. 0 < length w) ws → call_in a ws ≡ Some s → Fields cs [] × (call a ≡ s)
+sound_call : (a : Asked) (cs : List ℕ) (ws : List (List ℕ)) (s : Statement) → Fields cs ws → AllByRecursion (λ w. 0 < length w) ws → call_in a ws ≡ Some s → Fields cs [] × (call a ≡ s)
 unfolding call_in
 sound_call a cs [] s f n h = (f, (tested true (call a) s h).1)
 sound_call a cs (w ∷ ws) s f n h =
     let t = tested (eqb (length w) 0) (call a) s h in
     absurd (omega (arith, n.0, eqb-true (length w) 0 t.0))
 
-pick_words : (cs : List ℕ) (ws : List (List ℕ)) (s : Statement) → Fields cs ws → All (λ w. 0 < length w) ws → is_address (word_at ws 0) (word_at ws 1) (word_at ws 2) (word_at ws 3) ≡ true → has_digits Hexadecimal 2 (word_at ws 3) ≡ true → eqb (length (word_at ws 4)) 0 ≡ true → call (picking (address_of (word_at ws 0) (word_at ws 1) (word_at ws 2) (word_at ws 3))) ≡ s → Spells (codes "p" ++ cs) s
+pick_words : (cs : List ℕ) (ws : List (List ℕ)) (s : Statement) → Fields cs ws → AllByRecursion (λ w. 0 < length w) ws → is_address (word_at ws 0) (word_at ws 1) (word_at ws 2) (word_at ws 3) ≡ true → has_digits Hexadecimal 2 (word_at ws 3) ≡ true → eqb (length (word_at ws 4)) 0 ≡ true → call (picking (address_of (word_at ws 0) (word_at ws 1) (word_at ws 2) (word_at ws 3))) ≡ s → Spells (codes "p" ++ cs) s
 pick_words cs [] s f n a b d e = never b
 pick_words cs (x ∷ []) s f n a b d e = never b
 pick_words cs (x ∷ m ∷ []) s f n a b d e = never b
@@ -195,7 +195,7 @@ pick_words cs (x ∷ m ∷ v ∷ []) s f n a b d e = never b
 pick_words cs (x ∷ m ∷ v ∷ y ∷ []) s f n a b d e = subst (Spells (codes "p" ++ cs)) e (pick_line f a)
 pick_words cs (x ∷ m ∷ v ∷ y ∷ z ∷ ws) s f n a b d e = absurd (omega (arith, n.1.1.1.1.0, eqb-true (length z) 0 d))
 
-sound_pick : (cs : List ℕ) (ws : List (List ℕ)) (s : Statement) → Fields cs ws → All (λ w. 0 < length w) ws → pick_in ws ≡ Some s → Spells (codes "p" ++ cs) s
+sound_pick : (cs : List ℕ) (ws : List (List ℕ)) (s : Statement) → Fields cs ws → AllByRecursion (λ w. 0 < length w) ws → pick_in ws ≡ Some s → Spells (codes "p" ++ cs) s
 unfolding pick_in
 sound_pick cs ws s f n h =
     let t = tested (is_pick ws) (call (picking (address_of (word_at ws 0) (word_at ws 1) (word_at ws 2) (word_at ws 3)))) s h in
@@ -249,7 +249,7 @@ sound cs s h =
     (cases_Bool (skips cs))
 
 -- a keyword and what follows it, by the keyword's bytes
-plain : (w : List ℕ) → each (λ c. not (eqb c 0x20)) w ≡ true → All (λ c. c ≡ 0x20 → ⊥) w
+plain : (w : List ℕ) → each (λ c. not (eqb c 0x20)) w ≡ true → AllByRecursion (λ c. c ≡ 0x20 → ⊥) w
 plain [] e = tt
 plain (c ∷ w) e =
     let p = and_parts (not (eqb c 0x20)) _ e in

@@ -9,9 +9,9 @@ use Rattle.bench.specs.declared.row.Row.{Row}
 use Rattle.bench.specs.Rows.{each}
 use Rattle.round.specs.declared.call.Call.{Call}
 use Rattle.round.specs.declared.call.Call.TheVariants as called
-use Rattle.house.specs.declared.line.HouseLine.{HouseLine}
-use Rattle.house.specs.declared.line.HouseLine.TheVariants.{Skipped, Area, Meter, Fault, Retry, Places, Unreadable}
-use Rattle.house.specs.declared.line.HouseLine.TheVariants as said_as
+use Rattle.house.specs.declared.house_line.HouseLine.{HouseLine}
+use Rattle.house.specs.declared.house_line.HouseLine.TheVariants.{Skipped, Area, Meter, Fault, Retry, Places, Unreadable}
+use Rattle.house.specs.declared.house_line.HouseLine.TheVariants as said_as
 use Rattle.house.specs.declared.keyword.Keyword.{Keyword}
 use Rattle.house.specs.declared.keyword.Keyword.TheVariants as keyword
 use Rattle.house.specs.declared.number.Digit.TheVariants.{Hexadecimal}

@@ -1,6 +1,6 @@
 -- What a house does with a line that was read.
 use Rattle.std.specs.Prelude.{◌≡◌, Bool, true, false, Some, None, Option}
-use Rattle.house.specs.declared.line.HouseLine.{HouseLine}
+use Rattle.house.specs.declared.house_line.HouseLine.{HouseLine}
 use Rattle.house.specs.Houses.{Parts, takes, with_statement}
 use Rattle.house.specs.Lines.{Statement, said}
 

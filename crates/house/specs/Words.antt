@@ -1,6 +1,6 @@
 -- The words of a line, which spaces separate.
 use Rattle.std.specs.Prelude.{ℕ, ◌<◌, cond, List, [], ◌∷◌, ◌++◌, length, ◌==◌, ◌≢◌}
-use Rattle.std.specs.List.{AllByRecursion as All}
+use Rattle.std.specs.List.{AllByRecursion}
 
 -- what stands before the first such byte, and what stands after it
 abbrev pub before : ℕ → List ℕ → List ℕ
@@ -28,7 +28,7 @@ words cs = and_word (before 0x20 cs) (later_words cs)
 -- a word has one byte or more, and none of them is a space
 pub record Word (w : List ℕ) : Type 0 where
   pub some : 0 < length w
-  pub whole : All (λ c. c ≢ 0x20) w
+  pub whole : AllByRecursion (λ c. c ≢ 0x20) w
 
 -- what follows the first word of a line: words, each after one space or more, and spaces at the end
 pub data Fields : List ℕ → List (List ℕ) → Type 0 where

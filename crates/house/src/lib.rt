@@ -5,8 +5,8 @@
 mod address;
 mod field;
 pub mod house;
+mod house_line;
 mod keyword;
-mod line;
 mod number;
 pub mod pending;
 mod words;

@@ -1,6 +1,6 @@
 -- What every exchange keeps.
 use Rattle.std.proofs.Common.{◌≡◌, ℕ, ◌+◌, ◌≤◌, List, [], ◌∷◌, ◌++◌, length, take, sym, refl, ap, ◌∙◌, subst, arith}
-use Rattle.std.specs.List.{AllByRecursion as All}
+use Rattle.std.specs.List.{AllByRecursion}
 use Rattle.link.specs.Buffers.{filled}
 use Rattle.link.proofs.Filling.{take_filled, filled_few}
 use Rattle.telegram.specs.Requests.{request_of}
@@ -30,7 +30,7 @@ always_clean z (Exchange.damaged l a e) = absurd (omega arith)
 heard_sound : (s : State) (q : List ℕ) (k : ℕ) → Sound s → k ≤ s.run → Sound (record { bus = heard q s.bus; run = s.run; streak = k })
 heard_sound s q k h low =
     record {
-      stocked = subst (All Stocked) (sym (hear_meters (request_of q) s.bus)) h.stocked;
+      stocked = subst (AllByRecursion Stocked) (sym (hear_meters (request_of q) s.bus)) h.stocked;
       turned = hear_turned (request_of q) s.bus h.stocked h.turned;
       limited = low;
     }

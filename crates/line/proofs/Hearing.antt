@@ -1,6 +1,6 @@
 -- What hearing a request does to a bus.
 use Rattle.std.proofs.Common.{◌≡◌, ◌+◌, ◌%◌, ◌<◌, Bool, true, false, List, [], ◌∷◌, length, Some, None, Option, sym, refl, ap, ◌∙◌, subst, mod-lt, arith}
-use Rattle.std.specs.List.{AllByRecursion as All}
+use Rattle.std.specs.List.{AllByRecursion}
 use Rattle.std.proofs.ByRecursion.{all_kept_by}
 use Rattle.std.proofs.lemmas.Bool.{cond-true, cond_both}
 use Rattle.telegram.specs.declared.pattern.Pattern.{Pattern}
@@ -50,11 +50,11 @@ hear_meters (Some Release) b = refl
 hear_meters None b = refl
 
 -- a selected meter is one of the meters
-fitting_stocked : (p : Option Pattern) (ms : List Meter) → All Stocked ms → All Stocked (fitting p ms)
+fitting_stocked : (p : Option Pattern) (ms : List Meter) → AllByRecursion Stocked ms → AllByRecursion Stocked (fitting p ms)
 fitting_stocked None ms h = tt
 fitting_stocked (Some p) ms h = all_kept_by (λ m. fits p.bytes m.address) Stocked ms h
 
-pub selected_stocked : (b : Bus) → All Stocked b.meters → All Stocked (selected b)
+pub selected_stocked : (b : Bus) → AllByRecursion Stocked b.meters → AllByRecursion Stocked (selected b)
 unfolding selected
 selected_stocked b h = fitting_stocked b.selection b.meters h
 
@@ -65,13 +65,13 @@ advanced_turned m bit b e h =
     let low : b.turn % length m.telegrams < length m.telegrams = mod-lt b.turn h.some_telegrams in
     subst (λ ms. turn_fits (Some bit) ms (b.turn % length m.telegrams + 1)) (sym e) (omega arith, omega arith)
 
-fetched_turned : (ms : List Meter) (bit : Bool) (b : Bus) → selected b ≡ ms → All Stocked ms → Turned b → Turned (fetched ms bit b)
+fetched_turned : (ms : List Meter) (bit : Bool) (b : Bus) → selected b ≡ ms → AllByRecursion Stocked ms → Turned b → Turned (fetched ms bit b)
 fetched_turned [] bit b e h t = t
 fetched_turned (m ∷ []) bit b e h t =
     cond_both (holds b.kept bit) b (advance m bit b) Turned (λ _. t) (λ _. advanced_turned m bit b e h.0)
 fetched_turned (m ∷ n ∷ ms) bit b e h t = t
 
-pub hear_turned : (q : Option Request) (b : Bus) → All Stocked b.meters → Turned b → Turned (hear q b)
+pub hear_turned : (q : Option Request) (b : Bus) → AllByRecursion Stocked b.meters → Turned b → Turned (hear q b)
 unfolding hear
 hear_turned (Some (Selection p)) b h t = refl
 hear_turned (Some (Fetch bit)) b h t = fetched_turned (selected b) bit b refl (selected_stocked b h) t

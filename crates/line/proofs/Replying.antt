@@ -1,6 +1,6 @@
 -- What replies tell: a due telegram is an answer, and only a clean exchange is answered.
 use Rattle.std.proofs.Common.{◌≡◌, ℕ, ◌-◌, ◌<◌, ◌≤◌, Bool, true, false, List, [], ◌∷◌, length, get_or, Some, None, Option, refl, ap, ◌∙◌, arith}
-use Rattle.std.specs.List.{AllByRecursion as All}
+use Rattle.std.specs.List.{AllByRecursion}
 use Rattle.std.proofs.ByRecursion.{All-get_or}
 use Rattle.std.proofs.lemmas.Bool.{both_ways, or_right}
 use Rattle.telegram.specs.declared.request.Request.{Request}
@@ -41,12 +41,12 @@ selects_valid : (ms : List Meter) → Valid (due_selects ms)
 selects_valid [] = tt
 selects_valid (m ∷ ms) = tt
 
-fetches_valid : (ms : List Meter) (k : Option Bool) (turn : ℕ) → All Stocked ms → turn_fits k ms turn → Valid (due_fetches ms turn)
+fetches_valid : (ms : List Meter) (k : Option Bool) (turn : ℕ) → AllByRecursion Stocked ms → turn_fits k ms turn → Valid (due_fetches ms turn)
 fetches_valid [] k turn h t = tt
 fetches_valid (m ∷ []) k turn h t = stocked_reply m (turn - 1) h.0 (turn_low k m turn h.0 t)
 fetches_valid (m ∷ n ∷ ms) k turn h t = tt
 
-pub due_valid : (q : Option Request) (b : Bus) → All Stocked b.meters → Turned b → Valid (due q b)
+pub due_valid : (q : Option Request) (b : Bus) → AllByRecursion Stocked b.meters → Turned b → Valid (due q b)
 unfolding due
 due_valid (Some (Selection p)) b h t = selects_valid (selected b)
 due_valid (Some (Fetch bit)) b h t = fetches_valid (selected b) b.kept b.turn (selected_stocked b h) t

@@ -1,6 +1,6 @@
 -- What a line means, and what an exchange on it is: a request goes out and a reply comes back, or a fault befalls one of them.
 use Rattle.std.specs.Prelude.{◌≡◌, ℕ, ◌+◌, ◌<◌, ◌≤◌, List, [], ◌∷◌, take}
-use Rattle.std.specs.List.{AllByRecursion as All}
+use Rattle.std.specs.List.{AllByRecursion}
 use Rattle.link.specs.Buffers.{filled}
 use Rattle.telegram.specs.Requests.{request_of}
 use Rattle.line.specs.Meters.{Stocked}
@@ -52,7 +52,7 @@ pub record Exchanged (s : State) (request : List ℕ) (n : ℕ) (buffer : List �
 
 -- a state that a line can be in
 pub record Sound (s : State) : Type 0 where
-  pub stocked : All Stocked s.bus.meters
+  pub stocked : AllByRecursion Stocked s.bus.meters
   pub turned : Turned s.bus
   pub limited : s.streak ≤ s.run
 

@@ -1,6 +1,6 @@
 -- Meters: an address, and the telegrams that the meter sends.
 use Rattle.std.specs.Prelude.{◌≡◌, ℕ, ◌≤◌, true, List, length}
-use Rattle.std.specs.List.{between, AllByRecursion as All}
+use Rattle.std.specs.List.{between, AllByRecursion}
 use Rattle.telegram.specs.Replies.{is_reply}
 
 pub record Meter : Type 0 where
@@ -21,4 +21,4 @@ Carries address t = (is_reply t ≡ true) × (address_in t ≡ address)
 pub record Stocked (m : Meter) : Type 0 where
   pub some_telegrams : 1 ≤ length m.telegrams
   pub few_telegrams : length m.telegrams ≤ 16
-  pub carry : All (Carries m.address) m.telegrams
+  pub carry : AllByRecursion (Carries m.address) m.telegrams

@@ -7,13 +7,13 @@ use mathlib.Core.List.{is_set}
 use Rattle.std.proofs.Math.Logic.{∥∥₁_elim}
 use Rattle.std.proofs.Math.Bridge.{le_prop}
 use Rattle.std.proofs.Math.Nat.{ℕ_set}
-use Rattle.std.specs.List.{AllByRecursion as All}
+use Rattle.std.specs.List.{AllByRecursion}
 use Rattle.telegram.specs.Replies.{is_reply}
 use Rattle.line.specs.Meters.{Meter, Carries, Stocked, address_in}
 use Rattle.line.specs.Buses.{selected, turn_fits}
 use Rattle.line.specs.Exchanges.{State, Sound}
 
-all_prop : {X : Type 0} (P : X → Type 0) → ((x : X) → IsProp (P x)) → (xs : List X) → IsProp (All P xs)
+all_prop : {X : Type 0} (P : X → Type 0) → ((x : X) → IsProp (P x)) → (xs : List X) → IsProp (AllByRecursion P xs)
 all_prop P f [] p q = λ i. tt
 all_prop P f (x ∷ xs) p q = λ i. (f x p.0 q.0 i, all_prop P f xs p.1 q.1 i)
 
@@ -28,7 +28,7 @@ stocked_prop m a b =
       carry = all_prop (Carries m.address) (carries_prop m.address) m.telegrams a.carry b.carry i;
     }
 
-pub stocked_out : (ms : List Meter) → ∥ All Stocked ms ∥₁ → All Stocked ms
+pub stocked_out : (ms : List Meter) → ∥ AllByRecursion Stocked ms ∥₁ → AllByRecursion Stocked ms
 stocked_out ms h = ∥∥₁_elim h (all_prop Stocked stocked_prop ms) (λ x. x)
 
 turn_prop : (k : Option Bool) (ms : List Meter) (turn : ℕ) → IsProp (turn_fits k ms turn)

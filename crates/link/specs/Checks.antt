@@ -1,6 +1,6 @@
 -- Checks in a stated order: the first that fails tells its fault.
 use Rattle.std.specs.Prelude.{◌≡◌, Bool, true, false, cond, List, [], ◌∷◌, ◌++◌, Some, None, Option}
-use Rattle.std.specs.List.{AllByRecursion as All}
+use Rattle.std.specs.List.{AllByRecursion}
 use Rattle.link.specs.declared.fault.Report.{Report}
 
 -- one check: what must hold, and what is told where it does not
@@ -25,10 +25,10 @@ pub record First (cs : List Check) (r : Report) : Type 0 where
   pub failing : Check
   pub after : List Check
   pub in_order : cs ≡ before ++ failing ∷ after
-  pub passed : All (λ c. condition c ≡ true) before
+  pub passed : AllByRecursion (λ c. condition c ≡ true) before
   pub fails : condition failing ≡ false
   pub tells : told failing ≡ r
 
 abbrev pub FailsFirst : List Check → Option Report → Type 0
-FailsFirst cs None = All (λ c. condition c ≡ true) cs
+FailsFirst cs None = AllByRecursion (λ c. condition c ≡ true) cs
 FailsFirst cs (Some r) = First cs r

@@ -1,6 +1,6 @@
 -- The address that a reply telegram carries has eight bytes and a number of eight decimal digits.
 use Rattle.std.proofs.Common.{◌≡◌, ℕ, ◌+◌, ◌<◌, ◌≤◌, true, not, List, [], ◌∷◌, ◌++◌, length, get_or, drop, is_some, Some, None, Option, refl, ◌∙◌, subst, arith, length-drop, length-take, get_or-take}
-use Rattle.std.specs.List.{AllByRecursion as All}
+use Rattle.std.specs.List.{AllByRecursion}
 use Rattle.std.proofs.ByRecursion.{All-get_or}
 use Rattle.std.proofs.lemmas.Bool.{leb-true, eqb-true, and_from}
 use Rattle.link.specs.declared.fault.Report.{Report}
@@ -15,7 +15,7 @@ use Rattle.search.specs.Numbers.{Number}
 use Rattle.search.proofs.Addressing.{number_digits}
 
 abbrev Holds : List Check → Type 0
-Holds cs = All (λ c. condition c ≡ true) cs
+Holds cs = AllByRecursion (λ c. condition c ≡ true) cs
 
 none_by : (o : Option Report) → not (is_some o) ≡ true → o ≡ None
 none_by None h = refl

@@ -1,7 +1,7 @@
 -- What one exchange does to a meter that is linked.
 use Rattle.std.proofs.Common.{◌≡◌, ℕ, suc, ◌+◌, ◌-◌, ◌%◌, Bool, true, false, cond, not, List, [], ◌∷◌, length, get_or, Some, None, Option, Result, sym, refl, ap, ◌∙◌, subst, mod-lt, arith}
 use native.Mathlib.Nat.{mod-add-mod}
-use Rattle.std.specs.List.{AllByRecursion as All}
+use Rattle.std.specs.List.{AllByRecursion}
 use Rattle.std.proofs.ByRecursion.{All-get_or}
 use Rattle.std.proofs.lemmas.Bool.{both_ways}
 use Rattle.link.specs.Buffers.{filled}
@@ -67,7 +67,7 @@ module _ (pattern : List ℕ) (m : Meter) (k : ℕ) (answered bit : Bool) (s s' 
   alone = ap (λ p. fitting p s.bus.meters) l.selection ∙ l.only
 
   pub linked_stocked : Sound s → Stocked m
-  linked_stocked h = (subst (All Stocked) alone (selected_stocked s.bus h.stocked)).0
+  linked_stocked h = (subst (AllByRecursion Stocked) alone (selected_stocked s.bus h.stocked)).0
 
   ahead : Ahead s.bus (length m.telegrams) k bit (heard (fetch bit) s.bus)
   ahead = fetch_moves m bit s.bus k alone l.turn

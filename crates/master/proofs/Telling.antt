@@ -1,6 +1,6 @@
 -- What a probe tells of the meters that its beginning fits.
 use Rattle.std.proofs.Common.{◌≡◌, ℕ, ◌%◌, ◌<◌, ◌≤◌, Bool, true, cond, ltb, List, [], ◌∷◌, map, length, Some, filter, sym, refl, ap, ◌∙◌, subst, mod-lt, arith}
-use Rattle.std.specs.List.{AllByRecursion as All}
+use Rattle.std.specs.List.{AllByRecursion}
 use Rattle.std.proofs.ByRecursion.{All-get_or}
 use Rattle.std.proofs.lemmas.Bool.{both_ways, eqb-true, lt-ltb, cond_both, cond-true, cond-false}
 use Rattle.telegram.specs.Patterns.{beginning_pattern, fits}
@@ -26,12 +26,12 @@ use Rattle.master.proofs.Keeping.{chain_head, exchange_keeps}
 use Rattle.master.proofs.Linking.{fetch_clear, fetch_next, linked_stocked}
 use Rattle.master.proofs.Selecting.{chosen, clear_reply, pick_starts, reply_heard, selects_due}
 
-pub addresses_numbered : (ms : List Meter) → All Stocked ms → Numbered number 8 (addresses ms)
+pub addresses_numbered : (ms : List Meter) → AllByRecursion Stocked ms → Numbered number 8 (addresses ms)
 addresses_numbered [] h = tt
 addresses_numbered (m ∷ ms) h = ((stocked_address m h.0).1, addresses_numbered ms h.1)
 
 -- the meters that the pattern of p fits are those whose number begins with p
-fit_alike : (p : List ℕ) → InTree 8 p → (ms : List Meter) → All Stocked ms → All (λ m. begins p (number m.address) ≡ fits (beginning_pattern p) m.address) ms
+fit_alike : (p : List ℕ) → InTree 8 p → (ms : List Meter) → AllByRecursion Stocked ms → AllByRecursion (λ m. begins p (number m.address) ≡ fits (beginning_pattern p) m.address) ms
 fit_alike p t [] h = tt
 fit_alike p t (m ∷ ms) h =
     (sym (pattern_fits p m.address t.0 t.1 (stocked_address m h.0).0), fit_alike p t ms h.1)
@@ -47,7 +47,7 @@ kept_map f t (x ∷ xs) =
 abbrev chosen_by : List ℕ → List Meter → List Meter
 chosen_by p ms = fitting (Some (pattern_of (beginning_pattern p))) ms
 
-fitting_is : (ms : List Meter) (p : List ℕ) → InTree 8 p → All Stocked ms → search.fitting number (addresses ms) p ≡ addresses (chosen_by p ms)
+fitting_is : (ms : List Meter) (p : List ℕ) → InTree 8 p → AllByRecursion Stocked ms → search.fitting number (addresses ms) p ≡ addresses (chosen_by p ms)
 fitting_is ms p t h =
     kept_map (λ m. m.address) (λ a. begins p (number a)) ms
     ∙ ap addresses (kept_by_same (λ m. begins p (number m.address)) (λ m. fits (beginning_pattern p) m.address) ms (fit_alike p t ms h))

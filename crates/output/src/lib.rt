@@ -11,5 +11,5 @@ pub mod hex;
 pub mod manufacturer;
 pub mod reading;
 pub mod reply;
-pub mod telegram;
+pub mod telegram_line;
 pub mod unreadable;

@@ -2,4 +2,4 @@
 #![tactic(auto)]
 
 pub mod outcome;
-pub mod telegram;
+pub mod telegram_items;

@@ -1,5 +1,5 @@
 // What calls on a master gave.
-use crate::telegram::{print_fault, print_items};
+use crate::telegram_items::{print_fault, print_items};
 use list::full::Full;
 use output::call::{MisuseLine, PickedLine, ReleasedLine, SearchLine};
 use output::entry::EntryLine;

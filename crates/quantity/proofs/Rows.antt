@@ -2,7 +2,7 @@
 use Rattle.std.proofs.Common.{◌≡◌, ℕ, ◌+◌, ◌%◌, ◌<◌, ◌≤◌, true, false, List, [], ◌∷◌, length, get_or, drop, Some, None, Option, sym, ap, ◌∙◌, subst, ⊎_elim, arith}
 use Rattle.std.proofs.lemmas.List.{at_drop_more, at_drop_all}
 use Rattle.std.proofs.lemmas.Bool.{cond-true, cond-false, cases_Bool, ne_eqb}
-use Rattle.std.specs.List.{AllByRecursion as All}
+use Rattle.std.specs.List.{AllByRecursion}
 use Rattle.quantity.specs.declared.table.Row.{Row}
 use Rattle.quantity.specs.Table.{has, meaning_at, row_with, table, vif_meaning}
 
@@ -18,7 +18,7 @@ pub not_found : (c : ℕ) (rs : List Row) (i : ℕ) → length rs ≤ i → row_
 not_found c rs i h = at_drop_all (row_with c) rs i h
 
 -- the row that is found has the code, and what all rows have
-pub row_among : (P : Row → Type 0) (c : ℕ) (rs : List Row) (r : Row) → All P rs → row_with c rs ≡ Some r → (has c r ≡ true) × P r
+pub row_among : (P : Row → Type 0) (c : ℕ) (rs : List Row) (r : Row) → AllByRecursion P rs → row_with c rs ≡ Some r → (has c r ≡ true) × P r
 row_among P c [] r a e = let z : ◌≡◌ {A = ℕ} 0 1 = cc in absurd (omega arith)
 row_among P c (x ∷ rs) r a e =
     ⊎_elim

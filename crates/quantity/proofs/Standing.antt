@@ -3,7 +3,7 @@ use Rattle.std.proofs.Common.{◌≡◌, ℕ, zero, suc, ◌-◌, ◌/◌, ◌%�
 use Rattle.std.proofs.lemmas.List.FromFn.{get_or-range_with_len, length-range_with_len}
 use Rattle.std.proofs.ByRecursion.{All-get_or, All-weaker}
 use Rattle.std.proofs.lemmas.Bool.{and_parts, cond-false, leb-true, eqb-true, not-true}
-use Rattle.std.specs.List.{range_with_len, AllByRecursion as All}
+use Rattle.std.specs.List.{range_with_len, AllByRecursion}
 use Rattle.quantity.specs.declared.table.Row.{Row}
 use Rattle.quantity.specs.Laws.{Rising, TableStands, rows_with}
 use Rattle.quantity.specs.Table.{Moderate, first_code, has, lowered, n_of, next_code, row_with, table, vif_meaning}
@@ -12,7 +12,7 @@ abbrev every : {X : Type 0} → (X → Bool) → List X → Bool
 every p [] = true
 every p (x ∷ xs) = p x && every p xs
 
-tested : {X : Type 0} (p : X → Bool) (xs : List X) → every p xs ≡ true → All (λ x. p x ≡ true) xs
+tested : {X : Type 0} (p : X → Bool) (xs : List X) → every p xs ≡ true → AllByRecursion (λ x. p x ≡ true) xs
 tested p [] t = tt
 tested p (x ∷ xs) t = let h = and_parts (p x) (every p xs) t in (h.0, tested p xs h.1)
 
@@ -32,7 +32,7 @@ rises_by from (r ∷ rs) t =
     let h = and_parts (leb from (first_code r)) (rising (next_code r) rs) t in
     (leb-true from (first_code r) h.0, rises_by (next_code r) rs h.1)
 
-pub moderate_rows : All Moderate table
+pub moderate_rows : AllByRecursion Moderate table
 moderate_rows =
     All-weaker (λ r. leb (lowered r.3) 9 ≡ true) Moderate (λ r. leb-true (lowered r.3) 9) table
     (tested (λ r. leb (lowered r.3) 9) table refl)

@@ -1,6 +1,6 @@
 -- What the table of VIF codes is like as a whole.
 use Rattle.std.specs.Prelude.{◌≡◌, ℕ, ◌%◌, ◌<◌, ◌≤◌, not, List, [], ◌∷◌, ◌++◌, map, is_some, count_by, filter, nat_eq}
-use Rattle.std.specs.List.{range_with_len, AllByRecursion as All}
+use Rattle.std.specs.List.{range_with_len, AllByRecursion}
 use Rattle.quantity.specs.declared.table.Row.{Row}
 use Rattle.quantity.specs.Quantities.{quantity_number}
 use Rattle.quantity.specs.Table.{table, first_code, next_code, has, vif_meaning}
@@ -16,7 +16,7 @@ rows_with c = count_by (has c) table
 pub record SoundTable : Type 0 where
   pub rises : Rising 0 table
   -- n counts the codes of a row from 0
-  pub aligned : All (λ r. first_code r % r.1 ≡ 0) table
+  pub aligned : AllByRecursion (λ r. first_code r % r.1 ≡ 0) table
   pub once : (c : ℕ) → c < 128 → rows_with c ≤ 1
   pub without_row : filter (λ c. nat_eq (rows_with c) 0) (range_with_len 0 128) ≡ 0x6F ∷ 0x7C ∷ 0x7E ∷ []
   -- the quantities come in the order of their numbers, and the extension twice

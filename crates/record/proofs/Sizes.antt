@@ -1,6 +1,6 @@
 -- Every coding has a count of bytes that its kind allows.
 use Rattle.std.proofs.Common.{ℕ, get_or, IfSome, None, Option, sym, refl, subst, ⊎_elim, lit≤}
-use Rattle.std.specs.List.{AllByRecursion as All}
+use Rattle.std.specs.List.{AllByRecursion}
 use Rattle.std.proofs.ByRecursion.{All-get_or}
 use Rattle.std.proofs.lemmas.List.{get_or_past}
 use Rattle.std.proofs.lemmas.Bool.{cases_lt}
@@ -10,7 +10,7 @@ use Rattle.record.specs.Codings.{Sized, codings}
 abbrev OfSize : Option Coding → Type 0
 OfSize o = IfSome o Sized
 
-all_sized : All OfSize codings
+all_sized : AllByRecursion OfSize codings
 all_sized = (refl, ((lit≤ tt, lit≤ tt), ((lit≤ tt, lit≤ tt), ((lit≤ tt, lit≤ tt), ((lit≤ tt, lit≤ tt), (refl, ((lit≤ tt, lit≤ tt), ((lit≤ tt, lit≤ tt), (tt, ((lit≤ tt, lit≤ tt), ((lit≤ tt, lit≤ tt), ((lit≤ tt, lit≤ tt), ((lit≤ tt, lit≤ tt), (tt, ((lit≤ tt, lit≤ tt), (tt, tt))))))))))))))))
 
 pub sized_at : (f : ℕ) → OfSize (get_or codings f None)

@@ -1,6 +1,6 @@
 -- The laws of every run.
 use Rattle.std.proofs.Common.{◌≡◌, ℕ, suc, ◌+◌, ◌-◌, Bool, List, [], ◌∷◌, ◌++◌, length, take, drop, sym, refl, ap, ◌∙◌, subst, append_assoc, append-nil, arith}
-use Rattle.std.specs.List.{AllByRecursion as All}
+use Rattle.std.specs.List.{AllByRecursion}
 use Rattle.std.proofs.lemmas.List.{drop_at, take_at}
 use Rattle.telegram.specs.declared.address.Address.{Address}
 use Rattle.telegram.specs.Addresses.{address_bytes}
@@ -142,7 +142,7 @@ module _ (house : House) where
   picked_step address b k room s s₁ es es₁ m₁ c o os h (Step.released sent clear) = absurd h
   picked_step address b k room s s₁ es es₁ m₁ c o os h (Step.misused lacks) = (k, refl, refl)
 
-  stays_picked : (address : List ℕ) (b : Bool) (k : ℕ) (m m₂ : Mode) (s s₂ : State) (cs : List Call) (os : List Outcome) → m ≡ Mode.picked address b k → All NoRelease cs → Path house m s cs os m₂ s₂ → m₂ ≡ Mode.picked address b (k + accepted os)
+  stays_picked : (address : List ℕ) (b : Bool) (k : ℕ) (m m₂ : Mode) (s s₂ : State) (cs : List Call) (os : List Outcome) → m ≡ Mode.picked address b k → AllByRecursion NoRelease cs → Path house m s cs os m₂ s₂ → m₂ ≡ Mode.picked address b (k + accepted os)
   stays_picked address b k m m₂ s s₂ cs os is h Path.ended = is ∙ ap (Mode.picked address b) (omega arith)
   stays_picked address b k m m₂ s s₂ cs os is h (Path.called {mode₁ = n} {s₁ = u} {room = room} {es = es} {es₁ = fs} {c = c} {o = o} {calls = calls} {outcomes = outcomes} x t) =
       let y = subst (λ v. Step house room s es v c o n u fs) is x in

@@ -4,7 +4,7 @@ use Rattle.line.specs.Exchanges.{State}
 use Rattle.search.specs.declared.entry.Entry.{Entry}
 use Rattle.round.specs.declared.call.Call.{Call}
 use Rattle.round.specs.declared.call.Outcome.{Outcome}
-use Rattle.round.specs.declared.master.Master.{Master}
+use Rattle.round.specs.declared.any_master.Master.{Master}
 use Rattle.round.specs.Laws.{SearchesList}
 use Rattle.round.specs.Modes.{Holds, Mode, SameHouse, house_of, line_of}
 use Rattle.round.specs.Promise.{Goes_on, Promise, Runs}

@@ -25,8 +25,8 @@ use Rattle.round.specs.declared.call.Found.{Found}
 use Rattle.round.specs.declared.call.Outcome.{Outcome}
 use Rattle.round.specs.declared.call.Outcome.TheVariants as outcome
 use Rattle.round.specs.declared.call.Telegram.{Telegram}
-use Rattle.round.specs.declared.master.Master.{Master}
-use Rattle.round.specs.declared.master.Master.TheVariants as master
+use Rattle.round.specs.declared.any_master.Master.{Master}
+use Rattle.round.specs.declared.any_master.Master.TheVariants as master
 use Rattle.round.specs.Modes.{House, Mode, SameHouse, house_of, line_of}
 use Rattle.round.specs.Promise.{Goes}
 use Rattle.round.specs.Steps.{HoldsTelegram, Lists, Step}

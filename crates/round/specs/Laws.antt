@@ -1,6 +1,6 @@
 -- What holds of every run of calls, told from the calls and their outcomes alone.
 use Rattle.std.specs.Prelude.{◌≡◌, ℕ, ◌+◌, ◌-◌, Bool, List, [], ◌∷◌, ◌++◌, length, take, drop, ◌≢◌}
-use Rattle.std.specs.List.{AllByRecursion as All}
+use Rattle.std.specs.List.{AllByRecursion}
 use Rattle.telegram.specs.declared.address.Address.{Address}
 use Rattle.telegram.specs.Addresses.{address_bytes}
 use Rattle.line.specs.Meters.{Meter}
@@ -54,7 +54,7 @@ pub record PickedThen (calls : List Call) (outcomes : List Outcome) (a : Address
   pub outcomes_are : outcomes ≡ outcomes_before ++ outcome.Picked answered ∷ (between ++ last ∷ outcomes_after)
   pub same_before : length calls_before ≡ length outcomes_before
   pub same_between : length calls_between ≡ length between
-  pub unreleased : All NoRelease calls_between
+  pub unreleased : AllByRecursion NoRelease calls_between
 
 -- Where exactly one meter fits what is picked, the fetch accepted after k accepted ones, before any release, gives telegram
 -- (k modulo t) + 1 of that meter's t, whatever the line loses or damages

@@ -5,8 +5,8 @@ use Rattle.line.specs.Buses.{fitting}
 use Rattle.line.specs.Exchanges.{State}
 use Rattle.master.specs.Picks.{Linked, flipped}
 use Rattle.master.specs.Requests.{pattern_of}
-use Rattle.round.specs.declared.master.Master.{Master}
-use Rattle.round.specs.declared.master.Master.TheVariants as master
+use Rattle.round.specs.declared.any_master.Master.{Master}
+use Rattle.round.specs.declared.any_master.Master.TheVariants as master
 
 -- what no exchange changes: the meters, and the most faults in a row that the line may have
 pub record House : Type 0 where

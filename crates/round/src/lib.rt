@@ -1,7 +1,7 @@
 // Any list of calls on a master over any line.
 #![tactic(auto)]
 
+pub mod any_master;
 pub mod call;
-pub mod master;
 mod runs;
 mod steps;

@@ -4,8 +4,8 @@ ghost use Rattle.round.specs.Laws.{SearchesList};
 ghost use Rattle.round.specs.Modes.{Holds, Mode, SameHouse, house_of, line_of};
 ghost use Rattle.round.specs.Promise.{Goes, Goes_on, Promise, Runs};
 
+use crate::any_master::{Master, Progress};
 use crate::call::{Call, Outcome};
-use crate::master::{Master, Progress};
 use crate::steps::{fetch, pick, release_idle, release_picked, search};
 use line::line::Line;
 use master::master::Idle;

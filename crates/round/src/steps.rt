@@ -8,8 +8,8 @@ ghost use Rattle.master.specs.Searches.{Searched};
 ghost use Rattle.round.specs.Modes.{SameHouse, line_of};
 ghost use Rattle.round.specs.Promise.{Goes};
 
+use crate::any_master::Master;
 use crate::call::{Call, Found, Outcome, Telegram};
-use crate::master::Master;
 use line::line::Line;
 use link::buffer::new_buffer;
 use list::fixed_list::FixedList;

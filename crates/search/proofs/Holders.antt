@@ -1,6 +1,6 @@
 -- The meters that have a number, among those whose number begins with something.
 use Rattle.std.proofs.Common.{◌≡◌, ℕ, ◌≤◌, Bool, true, false, cond, ◌&&◌, eqb, List, [], ◌∷◌, length, filter, sym, refl, ap, ◌∙◌, subst, inl, arith}
-use Rattle.std.specs.List.{AllByRecursion as All}
+use Rattle.std.specs.List.{AllByRecursion}
 use Rattle.std.proofs.lemmas.Bool.{and_parts, and_from, false≢true, eqb-true, eq-eqb}
 use Rattle.std.proofs.ByRecursion.{All-weaker, kept_by_passes}
 use Rattle.search.specs.Numbers.{begins, same, Number}
@@ -30,7 +30,7 @@ begins_full [] (e ∷ k) h = absurd (omega arith)
 begins_full (d ∷ p) [] h = refl
 begins_full (d ∷ p) (e ∷ k) h = ap (λ b. eqb d e && b) (begins_full p k (omega arith))
 
-pub kept_by_same : {X : Type 0} (t u : X → Bool) (xs : List X) → All (λ x. t x ≡ u x) xs → filter t xs ≡ filter u xs
+pub kept_by_same : {X : Type 0} (t u : X → Bool) (xs : List X) → AllByRecursion (λ x. t x ≡ u x) xs → filter t xs ≡ filter u xs
 kept_by_same t u [] h = refl
 kept_by_same t u (x ∷ xs) h = let r = kept_by_same t u xs h.1 in let q = h.0 in cc
 
@@ -50,7 +50,7 @@ module _ {M : Type 0} (number : M → List ℕ) (ms : List M) where
 
   pub fitting_begins : (p : List ℕ) (m : M) (fs : List M) → fitting number ms p ≡ m ∷ fs → begins p (number m) ≡ true
   fitting_begins p m fs e =
-      let P : List M → Type 0 = All (λ m. begins p (number m) ≡ true) in
+      let P : List M → Type 0 = AllByRecursion (λ m. begins p (number m) ≡ true) in
       let h : P (m ∷ fs) = subst P e (kept_by_passes (λ m. begins p (number m)) ms) in
       h.0
 
@@ -69,7 +69,7 @@ module _ {M : Type 0} (number : M → List ℕ) (ms : List M) where
   held k [] e l = absurd (omega arith)
   held k (m ∷ hs) e l =
       let i : m ∈ holders number ms k = rw e (inl refl) in
-      let P : List M → Type 0 = All (λ x. same k (number x) ≡ true) in
+      let P : List M → Type 0 = AllByRecursion (λ x. same k (number x) ≡ true) in
       let s : P (m ∷ hs) = subst P e (kept_by_passes (λ x. same k (number x)) ms) in
       (m, (in_kept_of (λ x. same k (number x)) m ms i, sym (same_is k (number m) s.0)))
 
@@ -77,7 +77,7 @@ module _ {M : Type 0} (number : M → List ℕ) (ms : List M) where
   correct_present (only m) h = held (number m) (m ∷ []) h (omega arith)
   correct_present (shared k) h = held k (holders number ms k) refl h
 
-  pub all_present : (es : List (Entry M)) → All (Correct number ms 1) es → All (Present number ms) (numbers number es)
+  pub all_present : (es : List (Entry M)) → AllByRecursion (Correct number ms 1) es → AllByRecursion (Present number ms) (numbers number es)
   all_present [] h = tt
   all_present (e ∷ es) h = (correct_present e h.0, all_present es h.1)
 

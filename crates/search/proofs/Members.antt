@@ -1,6 +1,6 @@
 -- What stands in a list.
 use Rattle.std.proofs.Common.{◌≡◌, ℕ, zero, suc, ◌+◌, ◌<◌, ◌≤◌, Bool, true, false, cond, ◌⊎◌, List, [], ◌∷◌, ◌++◌, map, filter, sym, refl, ap, ◌∙◌, subst, inl, inr, arith}
-use Rattle.std.specs.List.{range_with_len, flat_map, AllByRecursion as All}
+use Rattle.std.specs.List.{range_with_len, flat_map, AllByRecursion}
 use Rattle.std.proofs.lemmas.Bool.{false≢true, cases_order}
 use Rattle.std.proofs.lemmas.List.{map-append}
 use Rattle.search.specs.Counts.{◌∈◌}
@@ -13,7 +13,7 @@ pub in_right : {X : Type 0} (x : X) (xs ys : List X) → x ∈ ys → x ∈ (xs 
 in_right x [] ys h = h
 in_right x (y ∷ xs) ys h = inr (in_right x xs ys h)
 
-pub in_all : {X : Type 0} (P : X → Type 0) (x : X) (xs : List X) → x ∈ xs → All P xs → P x
+pub in_all : {X : Type 0} (P : X → Type 0) (x : X) (xs : List X) → x ∈ xs → AllByRecursion P xs → P x
 in_all P x [] h a = absurd h
 in_all P x (y ∷ xs) h a = elim h [ inl e ↦ subst P e a.0 | inr r ↦ in_all P x xs r a.1 ]
 

@@ -1,6 +1,6 @@
 -- A place for each number present is enough.
 use Rattle.std.proofs.Common.{◌≡◌, ℕ, suc, ◌≤◌, List, [], ◌∷◌, length, sym, refl, ◌∙◌, subst, inl, inr, arith}
-use Rattle.std.specs.List.{AllByRecursion as All}
+use Rattle.std.specs.List.{AllByRecursion}
 use Rattle.std.proofs.lemmas.List.{length-map}
 use Rattle.search.specs.Numbers.{◌≺◌, Rising}
 use Rattle.search.specs.Counts.{◌∈◌}
@@ -28,7 +28,7 @@ drop_one {X} x (k ∷ ks) h = elim h [ inl e ↦ (ks, (refl, λ y i d. here e y 
     there r = (k ∷ r.0, (let e = r.1.0 in omega arith, λ y i d. elim i [ inl q ↦ inl q | inr j ↦ inr (r.1.1 y j d) ]))
 
 -- numbers that rise are as many as the list that has them, at most
-rising_fits : (xs ks : List (List ℕ)) → Rising xs → All (λ x. x ∈ ks) xs → length xs ≤ length ks
+rising_fits : (xs ks : List (List ℕ)) → Rising xs → AllByRecursion (λ x. x ∈ ks) xs → length xs ≤ length ks
 rising_fits [] ks r h = omega arith
 rising_fits (x ∷ xs) ks r h =
     let d = drop_one x ks h.0 in
@@ -36,7 +36,7 @@ rising_fits (x ∷ xs) ks r h =
     let e = d.1.0 in
     omega arith
   where
-    without : (ys : List (List ℕ)) → All (λ y. x ≺ y) ys → All (λ y. y ∈ ks) ys → (d : (rest : List (List ℕ)) × ((length ks ≡ suc (length rest)) × ((y : List ℕ) → y ∈ ks → (x ≡ y → ⊥) → y ∈ rest))) → All (λ y. y ∈ d.0) ys
+    without : (ys : List (List ℕ)) → AllByRecursion (λ y. x ≺ y) ys → AllByRecursion (λ y. y ∈ ks) ys → (d : (rest : List (List ℕ)) × ((length ks ≡ suc (length rest)) × ((y : List ℕ) → y ∈ ks → (x ≡ y → ⊥) → y ∈ rest))) → AllByRecursion (λ y. y ∈ d.0) ys
     without [] l i d = tt
     without (y ∷ ys) l i d = (d.1.1 y i.0 (≺_differs x y l.0), without ys l.1 i.1 d)
 

@@ -1,6 +1,6 @@
 -- What a search over any line has listed is true and in order.
 use Rattle.std.proofs.Common.{◌≡◌, ℕ, ◌≤◌, Bool, true, false, cond, ltb, List, [], ◌∷◌, ◌++◌, map, length, refl, ap, ◌∙◌, subst, arith}
-use Rattle.std.specs.List.{AllByRecursion as All}
+use Rattle.std.specs.List.{AllByRecursion}
 use Rattle.std.proofs.lemmas.Bool.{ltb-false}
 use Rattle.std.proofs.lemmas.List.{map-append, append_assoc}
 use Rattle.std.proofs.ByRecursion.{All-append, All-weaker}
@@ -23,21 +23,21 @@ module _ {M : Type 0} (number : M → List ℕ) (ms : List M) where
     abbrev next : List ℕ → Verdict M → List (List ℕ)
     next p v = numbers number (found D p v) ++ followers D p v
 
-    next_in_order : (p : List ℕ) (v : Verdict M) → May p v → Rising (next p v) × All (λ y. begins p y ≡ true) (next p v)
+    next_in_order : (p : List ℕ) (v : Verdict M) → May p v → Rising (next p v) × AllByRecursion (λ y. begins p y ≡ true) (next p v)
     next_in_order p nobody h = (tt, tt)
     next_in_order p (one m) h = ((tt, tt), (fitting_begins number ms p m [] (truth.0 p m h), tt))
     next_in_order p several h = go (ltb (length p) D)
       where
-        go : (b : Bool) → Rising (numbers number (cond b [] (shared p ∷ [])) ++ cond b (children p) []) × All (λ y. begins p y ≡ true) (numbers number (cond b [] (shared p ∷ [])) ++ cond b (children p) [])
+        go : (b : Bool) → Rising (numbers number (cond b [] (shared p ∷ [])) ++ cond b (children p) []) × AllByRecursion (λ y. begins p y ≡ true) (numbers number (cond b [] (shared p ∷ [])) ++ cond b (children p) [])
         go true = (children_rising p, longer_begin p digits)
         go false = ((tt, tt), (begins_self p, tt))
 
-    pub found_correct : (p : List ℕ) (v : Verdict M) → length p ≤ D → May p v → All (Correct number ms least) (found D p v)
+    pub found_correct : (p : List ℕ) (v : Verdict M) → length p ≤ D → May p v → AllByRecursion (Correct number ms least) (found D p v)
     found_correct p nobody l h = tt
     found_correct p (one m) l h = (only_holder number ms p m (truth.0 p m h), tt)
     found_correct p several l h = go (ltb (length p) D) refl
       where
-        go : (b : Bool) → ltb (length p) D ≡ b → All (Correct number ms least) (cond b [] (shared p ∷ []))
+        go : (b : Bool) → ltb (length p) D ≡ b → AllByRecursion (Correct number ms least) (cond b [] (shared p ∷ []))
         go true e = tt
         go false e =
             let n = ltb-false (length p) D e in
@@ -47,11 +47,11 @@ module _ {M : Type 0} (number : M → List ℕ) (ms : List M) where
             (omega arith, tt)
 
     -- the numbers listed, and then the beginnings still to be probed, rise
-    pub sound : {ps : List (List ℕ)} {es : List (Entry M)} {n : ℕ} → Reached May D ps es n → Rising (numbers number es ++ ps) × All (Correct number ms least) es
+    pub sound : {ps : List (List ℕ)} {es : List (Entry M)} {n : ℕ} → Reached May D ps es n → Rising (numbers number es ++ ps) × AllByRecursion (Correct number ms least) es
     sound start = ((tt, tt), tt)
     sound (probe {p} {rest} {es} {n} r v h) = step (sound r) (in_tree D r).0.1
       where
-        step : Rising (numbers number es ++ p ∷ rest) × All (Correct number ms least) es → length p ≤ D → Rising (numbers number (es ++ found D p v) ++ (followers D p v ++ rest)) × All (Correct number ms least) (es ++ found D p v)
+        step : Rising (numbers number es ++ p ∷ rest) × AllByRecursion (Correct number ms least) es → length p ≤ D → Rising (numbers number (es ++ found D p v) ++ (followers D p v ++ rest)) × AllByRecursion (Correct number ms least) (es ++ found D p v)
         step g l =
             let o = next_in_order p v h in
             let s : Rising (numbers number es ++ (next p v ++ rest)) = rising_step p (numbers number es) rest (next p v) o.0 o.1 g.0 in
@@ -76,6 +76,6 @@ true_front number ms es fs t =
     record {
       rising = rising_front (numbers number es) (numbers number fs) (subst Rising e t.rising);
       values = ascending_front (map value (numbers number es)) (map value (numbers number fs)) (subst Ascending v t.values);
-      present = all_front (Present number ms) (numbers number es) (numbers number fs) (subst (All (Present number ms)) e t.present);
+      present = all_front (Present number ms) (numbers number es) (numbers number fs) (subst (AllByRecursion (Present number ms)) e t.present);
       correct = all_front (Correct number ms 1) es fs t.correct;
     }

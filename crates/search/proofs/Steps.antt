@@ -1,6 +1,6 @@
 -- A search probes beginnings of up to D digits, and ends.
 use Rattle.std.proofs.Common.{◌≡◌, ℕ, zero, suc, ◌+◌, ◌-◌, ◌*◌, ◌<◌, ◌≤◌, Bool, true, false, cond, ltb, List, [], ◌∷◌, ◌++◌, map, length, refl, ap, arith, length-append}
-use Rattle.std.specs.List.{AllByRecursion as All}
+use Rattle.std.specs.List.{AllByRecursion}
 use Rattle.std.proofs.lemmas.Bool.{ltb-true, lt-ltb, le-ltb, cond-true, cond-false}
 use Rattle.std.proofs.ByRecursion.{All-append}
 use Rattle.search.specs.Numbers.{Digits, longer, children, digits}
@@ -16,7 +16,7 @@ length_longer p c = let a = length-append p (c ∷ []) in omega arith
 abbrev pub InTree : ℕ → List ℕ → Type 0
 InTree D p = Digits p × (length p ≤ D)
 
-longer_in_tree : (D : ℕ) (p : List ℕ) → Digits p → length p < D → (cs : List ℕ) → Digits cs → All (InTree D) (map (longer p) cs)
+longer_in_tree : (D : ℕ) (p : List ℕ) → Digits p → length p < D → (cs : List ℕ) → Digits cs → AllByRecursion (InTree D) (map (longer p) cs)
 longer_in_tree D p g l [] h = tt
 longer_in_tree D p g l (c ∷ cs) h = ((All-append (λ d. d < 10) p (c ∷ []) g (h.0, tt), let a = length_longer p c in omega arith), longer_in_tree D p g l cs h.1)
 
@@ -37,16 +37,16 @@ size_positive zero = omega arith
 size_positive (suc d) = omega arith
 
 module _ {M : Type 0} (D : ℕ) where
-  followers_in_tree : (p : List ℕ) (v : Verdict M) → InTree D p → All (InTree D) (followers D p v)
+  followers_in_tree : (p : List ℕ) (v : Verdict M) → InTree D p → AllByRecursion (InTree D) (followers D p v)
   followers_in_tree p nobody h = tt
   followers_in_tree p (one m) h = tt
   followers_in_tree p several h = go (ltb (length p) D) refl
     where
-      go : (b : Bool) → ltb (length p) D ≡ b → All (InTree D) (cond b (children p) [])
+      go : (b : Bool) → ltb (length p) D ≡ b → AllByRecursion (InTree D) (cond b (children p) [])
       go true e = longer_in_tree D p h.0 (ltb-true (length p) D e) digits digits_small
       go false e = tt
 
-  pub in_tree : {May : List ℕ → Verdict M → Type 0} {ps : List (List ℕ)} {es : List (Entry M)} {n : ℕ} → Reached May D ps es n → All (InTree D) ps
+  pub in_tree : {May : List ℕ → Verdict M → Type 0} {ps : List (List ℕ)} {es : List (Entry M)} {n : ℕ} → Reached May D ps es n → AllByRecursion (InTree D) ps
   in_tree start = ((tt, omega arith), tt)
   in_tree (probe {p} {rest} {es} {n} r v h) =
       let g = in_tree r in

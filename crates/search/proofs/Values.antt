@@ -1,6 +1,6 @@
 -- The order of numbers is the order of their values.
 use Rattle.std.proofs.Common.{◌≡◌, ℕ, ◌+◌, ◌*◌, ◌<◌, List, [], ◌∷◌, ◌++◌, map, length, sym, ◌∙◌, inl, inr, arith}
-use Rattle.std.specs.List.{AllByRecursion as All}
+use Rattle.std.specs.List.{AllByRecursion}
 use Rattle.std.proofs.ByRecursion.{All-map}
 use Rattle.search.specs.Numbers.{Digits, Number, ◌≺◌, Rising, Ascending, valued, value}
 use Rattle.search.proofs.Order.{all_front}
@@ -22,11 +22,11 @@ rises (d ∷ x) (e ∷ y) l g h a =
 pub values_rise : ValuesRise
 values_rise D x y p q h = rises x y (p.0 ∙ sym q.0) p.1 h 0
 
-pub values_ascend : (D : ℕ) (xs : List (List ℕ)) → All (Number D) xs → Rising xs → Ascending (map value xs)
+pub values_ascend : (D : ℕ) (xs : List (List ℕ)) → AllByRecursion (Number D) xs → Rising xs → Ascending (map value xs)
 values_ascend D [] n r = tt
 values_ascend D (x ∷ xs) n r = (All-map (λ v. value x < v) value xs (each xs n.1 r.0), values_ascend D xs n.1 r.1)
   where
-    each : (ys : List (List ℕ)) → All (Number D) ys → All (λ y. x ≺ y) ys → All (λ y. value x < value y) ys
+    each : (ys : List (List ℕ)) → AllByRecursion (Number D) ys → AllByRecursion (λ y. x ≺ y) ys → AllByRecursion (λ y. value x < value y) ys
     each [] m l = tt
     each (y ∷ ys) m l = (values_rise D x y n.0 m.0 l.0, each ys m.1 l.1)
 

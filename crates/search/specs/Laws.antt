@@ -1,7 +1,7 @@
 -- The laws of a search, as statements, for meters of any type M and numbers of any count of digits D.
 use Rattle.std.specs.Prelude.{◌≡◌, ℕ, suc, ◌+◌, ◌-◌, ◌*◌, ◌/◌, ◌<◌, ◌≤◌, Bool, true, List, [], ◌∷◌, ◌++◌, map, length}
 use Rattle.std.proofs.Math.Option.{Option}
-use Rattle.std.specs.List.{AllByRecursion as All}
+use Rattle.std.specs.List.{AllByRecursion}
 use Rattle.search.specs.Numbers.{Number, ◌≺◌, Rising, value, Ascending}
 use Rattle.search.specs.Counts.{◌∈◌}
 use Rattle.search.specs.Verdicts.{Verdict, Entry, only, shared, holders, commons, Numbered, numbers, found, Clear, Faulty, Told}
@@ -21,14 +21,14 @@ Present {M} number ms k = (m : M) × ((m ∈ ms) × (number m ≡ k))
 pub record TrueList {M : Type 0} (number : M → List ℕ) (ms : List M) (es : List (Entry M)) : Type 0 where
   pub rising : Rising (numbers number es)
   pub values : Ascending (map value (numbers number es))
-  pub present : All (Present number ms) (numbers number es)
-  pub correct : All (Correct number ms 1) es
+  pub present : AllByRecursion (Present number ms) (numbers number es)
+  pub correct : AllByRecursion (Correct number ms 1) es
 
 -- What is listed over a line without faults: each number present too, and shared just where two or more meters have it; and how many probes it took
 pub record WholeList {M : Type 0} (number : M → List ℕ) (ms : List M) (D : ℕ) (es : List (Entry M)) (n : ℕ) : Type 0 where
   pub truly : TrueList number ms es
   pub complete : (m : M) → m ∈ ms → number m ∈ numbers number es
-  pub correct : All (Correct number ms 2) es
+  pub correct : AllByRecursion (Correct number ms 2) es
   pub counted : n ≡ 1 + 10 * commons number ms D
   pub bounded : n ≤ 11 + 10 * (D - 1) * (length ms / 2)
 
@@ -60,7 +60,7 @@ Starts {M} number D p = (ms : List M) (faultless : Bool) → Reached (Told numbe
 -- What is listed where a probe of p tells v is correct
 abbrev pub Lists : {M : Type 0} (number : M → List ℕ) (D : ℕ) → List ℕ → Verdict M → List (Entry M) → Type 0
 Lists {M} number D p v es =
-    (ms : List M) (faultless : Bool) → Numbered number D ms → Told number ms faultless p v → All (Correct number ms 1) es × (faultless ≡ true → All (Correct number ms 2) es)
+    (ms : List M) (faultless : Bool) → Numbered number D ms → Told number ms faultless p v → AllByRecursion (Correct number ms 1) es × (faultless ≡ true → AllByRecursion (Correct number ms 2) es)
 
 -- A search needs to keep the next beginning alone: where p is next and its probe tells v, the search goes on with q next. What is left to probe falls,
 -- and there are never more probes than beginnings of up to D digits

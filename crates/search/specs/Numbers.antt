@@ -4,7 +4,7 @@
 --     beginnings l        all beginnings of l digits
 --     x ≺ y               x comes before y
 use Rattle.std.specs.Prelude.{◌≡◌, ℕ, zero, suc, ◌+◌, ◌*◌, ◌<◌, Bool, true, false, ◌&&◌, ◌⊎◌, List, [], ◌∷◌, ◌++◌, map, length, ◌==◌}
-use Rattle.std.specs.List.{range_with_len, flat_map, AllByRecursion as All}
+use Rattle.std.specs.List.{range_with_len, flat_map, AllByRecursion}
 
 infix 50 ◌≺◌
 -- the ten digits, in order
@@ -13,7 +13,7 @@ digits = range_with_len 0 10
 
 -- a beginning made of digits, and a number of D digits
 abbrev pub Digits : List ℕ → Type 0
-Digits p = All (λ d. d < 10) p
+Digits p = AllByRecursion (λ d. d < 10) p
 
 abbrev pub Number : ℕ → List ℕ → Type 0
 Number D k = (length k ≡ D) × Digits k
@@ -55,7 +55,7 @@ abbrev pub ◌≺◌ : List ℕ → List ℕ → Type 0
 -- each comes before all that stand after it
 abbrev pub Rising : List (List ℕ) → Type 0
 Rising [] = Unit {0}
-Rising (x ∷ xs) = All (λ y. x ≺ y) xs × Rising xs
+Rising (x ∷ xs) = AllByRecursion (λ y. x ≺ y) xs × Rising xs
 
 -- the value that the digits stand for, where those before them stand for a
 abbrev pub valued : ℕ → List ℕ → ℕ
@@ -68,4 +68,4 @@ value p = valued 0 p
 -- each value is below all that stand after it
 abbrev pub Ascending : List ℕ → Type 0
 Ascending [] = Unit {0}
-Ascending (x ∷ xs) = All (λ y. x < y) xs × Ascending xs
+Ascending (x ∷ xs) = AllByRecursion (λ y. x < y) xs × Ascending xs

@@ -3,7 +3,7 @@
 --     holders number ms k       the meters that have the number k
 --     commons number ms D       how many beginnings of 0 to D - 1 digits are common to two or more meters
 use Rattle.std.specs.Prelude.{◌≡◌, ℕ, ◌<◌, Bool, true, cond, List, [], ◌∷◌, map, length, filter, nat_lt}
-use Rattle.std.specs.List.{AllByRecursion as All}
+use Rattle.std.specs.List.{AllByRecursion}
 use Rattle.search.specs.Numbers.{Number, begins, same, children, beginnings}
 use Rattle.search.specs.Counts.{passing, sum_to}
 
@@ -40,7 +40,7 @@ module _ {M : Type 0} (number : M → List ℕ) where
 
   -- each meter has a number of D digits
   abbrev pub Numbered : ℕ → List M → Type 0
-  Numbered D ms = All (λ m. Number D (number m)) ms
+  Numbered D ms = AllByRecursion (λ m. Number D (number m)) ms
 
   abbrev pub number_of : Entry M → List ℕ
   number_of (only m) = number m

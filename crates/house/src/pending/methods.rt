@@ -6,7 +6,7 @@ ghost use Rattle.house.specs.Taking.{Accepts};
 
 use super::Pending;
 use crate::house::{House, Unreadable};
-use crate::line::{HouseLine, read_line};
+use crate::house_line::{HouseLine, read_line};
 use std::alloc::{AllocError, Global};
 
 const MOST_LAYERS: usize = 3;

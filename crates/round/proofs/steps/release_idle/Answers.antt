@@ -1,5 +1,5 @@
 use Rattle.master.proofs.Keeping.{exchange_keeps}
-use Rattle.round.specs.declared.master.Master.TheVariants as master
+use Rattle.round.specs.declared.any_master.Master.TheVariants as master
 use Rattle.round.proofs.Stepping.{release_goes, same_house}
 use Rattle.round.proofs.steps.release_idle.Goals as goal
 
