@@ -1,14 +1,13 @@
 #!/usr/bin/env bash
 # Tries the three misuses of a master that its types rule out: a search while a meter is picked, a second pick while a
 # meter is picked, a fetch while idle. The compiler must refuse each before the prover sees it; a use that is in order must
-# pass. Usage: compare/misuse.sh, after rt check master (whose results it takes over).
+# pass. Usage: compare/misuse.sh, after rt check in crates/master (whose results it takes over).
 set -euo pipefail
 top=$(cd "$(dirname "$0")/.." && pwd)
 work=$(mktemp -d)
 trap 'rm -rf "$work"' EXIT
 cp "$top/crates.txt" "$work/"
 cp -r "$top/crates" "$work/crates"
-[ ! -d "$top/target" ] || cp -r "$top/target" "$work/target"
 echo 'misuse: link telegram list line search master' >> "$work/crates.txt"
 mkdir -p "$work/crates/misuse/src"
 cd "$work"
@@ -16,6 +15,8 @@ cd "$work"
 # try NAME EXPECTED BODY: checks a function with this body over an idle master.
 try() {
     cat > crates/misuse/src/lib.rt <<RT
+#![tactic(auto)]
+
 use line::line::Line;
 use link::buffer::new_buffer;
 use list::fixed_list::FixedList;
@@ -32,7 +33,7 @@ pub fn used<L: Line + Drop>(idle: Idle<L>, address: Address) {
     $3
 }
 RT
-    if rt check misuse > log 2>&1; then found=accepted; else found=refused; fi
+    if (cd crates/misuse && rt check) > log 2>&1; then found=accepted; else found=refused; fi
     reason=$(grep -m1 -o 'error\[[A-Za-z0-9-]*\][^:]*: .*' log | cut -c1-160 || true)
     echo "$1: $found${reason:+ ($reason)}"
     [ "$found" = "$2" ]

@@ -7,12 +7,12 @@ use Rattle.round.specs.declared.call.Outcome.{Outcome}
 use Rattle.round.specs.declared.any_master.Master.{Master}
 use Rattle.round.specs.Laws.{SearchesList}
 use Rattle.round.specs.Modes.{Holds, Mode, SameHouse, house_of, line_of}
-use Rattle.round.specs.Promise.{Goes_on, Promise, Runs}
+use Rattle.round.specs.Promise.{GoesOn, Promise, Runs}
 use Rattle.round.proofs.Obeying.{fetch_laws, searches_list}
 use Rattle.round.proofs.Tracing.{path_join, trace_path}
 
 module _ {L : Type 0} (means : L → State) (room : ℕ) (before after : Master L) (calls : List Call) (outcomes : List Outcome) (es : List Entry) (runs : Runs means room before calls outcomes after es) where
-  pub run_goes_on : Goes_on means before calls outcomes after
+  pub run_goes_on : GoesOn means before calls outcomes after
   run_goes_on m mode s cs os path h =
       let did = runs mode h in
       let all = path_join path (trace_path did.1) in

@@ -20,8 +20,8 @@ Runs means room before calls outcomes after es =
     (mode : Mode) → Holds means before mode → (mode' : Mode) × Trace (house_of (means (line_of before))) room mode (means (line_of before)) [] calls outcomes mode' (means (line_of after)) es × Holds means after mode'
 
 -- a run goes on from any calls before it, in one run or several: together they are calls one after the other, and obey the laws
-abbrev pub Goes_on : {L : Type 0} → (L → State) → Master L → List Call → List Outcome → Master L → Type 0
-Goes_on means before calls outcomes after =
+abbrev pub GoesOn : {L : Type 0} → (L → State) → Master L → List Call → List Outcome → Master L → Type 0
+GoesOn means before calls outcomes after =
     (m mode : Mode) (s : State) (cs : List Call) (os : List Outcome) → Path (house_of (means (line_of before))) m s cs os mode (means (line_of before)) → Holds means before mode → (mode' : Mode) × Path (house_of (means (line_of before))) m s (cs ++ calls) (os ++ outcomes) mode' (means (line_of after)) × Holds means after mode' × FetchLaws (house_of (means (line_of before))) (cs ++ calls) (os ++ outcomes)
 
 -- The whole promise of a list of calls on a line that no master has used yet, in any state of its meaning.

@@ -2,7 +2,7 @@
 ghost use Rattle.std.specs.Prelude.{◌≡◌, ◌<◌, ◌≤◌, min, length, take, drop};
 ghost use Rattle.round.specs.Laws.{SearchesList};
 ghost use Rattle.round.specs.Modes.{Holds, Mode, SameHouse, house_of, line_of};
-ghost use Rattle.round.specs.Promise.{Goes, Goes_on, Promise, Runs};
+ghost use Rattle.round.specs.Promise.{Goes, GoesOn, Promise, Runs};
 
 use crate::any_master::{Master, Progress};
 use crate::call::{Call, Outcome};
@@ -82,7 +82,7 @@ impl<L: Line> Master<L> {
     ) -> (Master<L>, Progress)
         ensures calls { result.1.calls ≡ min (length calls.now) (length outcomes.old) }
         ensures runs { Runs L.means (length entries.old) self (take result.1.calls calls.now) (take result.1.calls outcomes.new) result.0 (take result.1.entries entries.new) }
-        ensures goes_on { Goes_on L.means self (take result.1.calls calls.now) (take result.1.calls outcomes.new) result.0 }
+        ensures goes_on { GoesOn L.means self (take result.1.calls calls.now) (take result.1.calls outcomes.new) result.0 }
         ensures lists { (mode : Mode) → Holds L.means self mode → SearchesList (house_of (L.means (line_of self))) (length entries.old) (take result.1.calls calls.now) (take result.1.calls outcomes.new) (take result.1.entries entries.new) }
         ensures within { result.1.entries ≤ length entries.old }
         ensures other_outcomes { drop result.1.calls outcomes.new ≡ drop result.1.calls outcomes.old }
