@@ -1,8 +1,7 @@
 // Why a bench is refused.
-ghost use Rattle.std.specs.Prelude.{◌≡◌};
 ghost use Rattle.bench.specs.Faults.{bench_report};
 
-use link::fault::{Layer, Report};
+use link::fault::{Fault, Layer, Report};
 
 #[derive(Clone, Copy)]
 pub enum BenchFault {
@@ -14,11 +13,11 @@ pub enum BenchFault {
     Code { number: usize },
 }
 
-impl BenchFault {
+impl Fault for BenchFault {
+    ghost reported = { bench_report };
+
     // The fault's layer, place and number; the place is the number of the row or code.
-    pub fn report(&self) -> Report
-        ensures { result ≡ bench_report self.now }
-    {
+    fn report(&self) -> Report {
         let (number, place) = match *self {
             BenchFault::Size => (21, None),
             BenchFault::Row { number } => (22, Some(number)),

@@ -3,7 +3,7 @@ ghost use Rattle.std.specs.Prelude.{◌≡◌, Some, None};
 ghost use Rattle.capture.specs.declared.fault.Cause.TheVariants.{Reply};
 ghost use Rattle.capture.specs.Faults.{capture_report};
 
-use link::fault::{Layer, Report};
+use link::fault::{Fault, Layer, Report};
 use telegram::fault::ReplyFault;
 
 #[derive(Clone, Copy)]
@@ -43,11 +43,13 @@ impl CaptureFault {
             cause: self.cause,
         }
     }
+}
+
+impl Fault for CaptureFault {
+    ghost reported = { capture_report };
 
     // The fault's layer, place and number; the place counts in the telegram.
-    pub fn report(&self) -> Report
-        ensures { result ≡ capture_report self.now }
-    {
+    fn report(&self) -> Report {
         match self.cause {
             Cause::Size => Report {
                 layer: Layer::Making,

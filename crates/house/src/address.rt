@@ -34,7 +34,7 @@ fn read_address(number: &[u8], maker: &[u8], version: &[u8], medium: &[u8]) -> O
         pair(version, 0),
         pair(medium, 0),
     ];
-    Some(Address::from_bytes(&bytes).unwrap())
+    Some(Address::try_from(bytes).unwrap())
 }
 
 // The address that the first four words of a text spell, and the text behind them.

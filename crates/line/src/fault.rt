@@ -1,8 +1,7 @@
 // The refusal of a retry layer.
-ghost use Rattle.std.specs.Prelude.{◌≡◌};
 ghost use Rattle.line.specs.Faults.{limit_report};
 
-use link::fault::{Layer, Report};
+use link::fault::{Fault, Layer, Report};
 
 // The limit is above 7. The line is handed back.
 #[derive(Drop)]
@@ -10,11 +9,10 @@ pub struct LimitFault<L> {
     pub line: L,
 }
 
-impl<L> LimitFault<L> {
-    // The fault's layer, place and number.
-    pub fn report(&self) -> Report
-        ensures { result ≡ limit_report }
-    {
+impl<L> Fault for LimitFault<L> {
+    ghost reported = { λ _. limit_report };
+
+    fn report(&self) -> Report {
         Report {
             layer: Layer::Making,
             place: None,

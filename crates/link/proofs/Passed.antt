@@ -7,7 +7,7 @@ use Rattle.std.proofs.lemmas.Bool.{le-leb, eq-eqb}
 use Rattle.std.proofs.lemmas.Bool.Decides.{nat_tests}
 use Rattle.link.specs.Checks.{first_fault}
 use Rattle.link.proofs.Lists.{spelled, between_first}
-use Rattle.link.specs.Frames.{checksum, end_checks, long_checks, with_sum, ack, short, long, written}
+use Rattle.link.specs.Frames.{checksum, end_checks, long_checks, with_sum, long, written}
 
 -- a frame of `size` bytes that passes the checks at its end
 pub record Ended (from size : ℕ) (bs : List ℕ) : Type 0 where
@@ -36,18 +36,6 @@ laid_out from n bs h e =
 pub from_parts : (from n : ℕ) (bs front body : List ℕ) → from ≤ n → Ended from (n + 2) bs → take from bs ≡ front → between from n bs ≡ body → front ++ with_sum body ≡ bs
 from_parts from n bs front body h e p q =
     sym (laid_out from n bs h e ∙ ap (λ x. x ++ with_sum (between from n bs)) p ∙ ap (λ y. front ++ with_sum y) q)
-
-pub ack_bytes : (bs : List ℕ) → get_or bs 0 0 ≡ 0xe5 → length bs ≤ 1 → written ack ≡ bs
-ack_bytes [] h l = absurd (omega arith)
-ack_bytes (b ∷ []) h l = ap (λ x. x ∷ []) (sym h)
-ack_bytes (b ∷ c ∷ bs) h l = absurd (omega arith)
-
-pub short_bytes : (bs : List ℕ) → get_or bs 0 0 ≡ 0x10 → Ended 1 5 bs → written (short (get_or bs 1 0) (get_or bs 2 0)) ≡ bs
-short_bytes bs h e =
-    let l : length bs ≡ 5 = e.size_is in
-    let a : take 1 bs ≡ get_or bs 0 0 ∷ [] = spelled bs 0 1 (omega arith) in
-    let b : between 1 3 bs ≡ get_or bs 1 0 ∷ get_or bs 2 0 ∷ [] = spelled bs 1 2 (omega arith) in
-    from_parts 1 3 bs (0x10 ∷ []) (get_or bs 1 0 ∷ get_or bs 2 0 ∷ []) (omega arith) e (cc) (cc)
 
 -- a long frame whose header stands
 pub record Headed (bs : List ℕ) : Type 0 where

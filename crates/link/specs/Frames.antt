@@ -4,6 +4,7 @@ use Rattle.std.specs.List.{between}
 use Rattle.link.specs.declared.fault.Layer.TheVariants as layer
 use Rattle.link.specs.declared.fault.Report.{Report}
 use Rattle.link.specs.declared.fault.FrameFault.{FrameFault}
+use Rattle.link.specs.declared.frame.LongFrame.{LongFrame}
 use Rattle.link.specs.declared.frame.Frame.{Frame}
 use Rattle.link.specs.declared.frame.Frame.TheVariants.{Ack, Short, Long}
 use Rattle.link.specs.Checks.{Check, must, first_fault}
@@ -15,10 +16,13 @@ pub data Parts : Type 0 where
   short : (control address : ℕ) → Parts
   long : (control address information : ℕ) (content : List ℕ) → Parts
 
+abbrev pub long_parts : LongFrame → Parts
+long_parts f = long f.control f.address f.information f.data.now
+
 abbrev pub parts : Frame → Parts
 parts Ack = ack
 parts (Short c a) = short c a
-parts (Long c a i d) = long c a i d.now
+parts (Long f) = long_parts f
 
 -- what was read, if it was not refused
 abbrev pub parts_read : Result Frame FrameFault → Option Parts

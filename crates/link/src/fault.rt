@@ -1,6 +1,9 @@
 // Faults: what is refused is told by a layer, mostly a place, and a number.
 ghost use Rattle.std.specs.Prelude.{◌≡◌};
+ghost use Rattle.link.specs.declared.fault.Report.{Report as Reported};
 ghost use Rattle.link.specs.Faults.{frame_report};
+
+use std::fmt;
 
 // The part of the protocol that a fault belongs to.
 #[derive(Clone, Copy)]
@@ -12,12 +15,35 @@ pub enum Layer {
     Making,
 }
 
+// By the name that the programs print.
+impl fmt::Display for Layer {
+    fn fmt<W: fmt::Write>(&self, f: &mut fmt::Formatter<W>) -> fmt::Result {
+        f.write_str(match self {
+            Layer::Frame => "frame",
+            Layer::Reply => "reply",
+            Layer::Record => "record",
+            Layer::Master => "master",
+            Layer::Making => "making",
+        })
+    }
+}
+
 // A fault as it is told. The place is the offset of the offending byte in its telegram.
 #[derive(Clone, Copy)]
 pub struct Report {
     pub layer: Layer,
     pub place: Option<usize>,
     pub number: u8,
+}
+
+// A fault of any kind.
+pub trait Fault {
+    // How the fault is told.
+    ghost reported: { Self → Reported };
+
+    // The fault's layer, its place if it has one, and its number.
+    fn report(&self) -> Report
+        ensures { result ≡ reported self.now };
 }
 
 // Why some bytes are no frame, or why a frame cannot be written.
@@ -41,11 +67,10 @@ pub enum FrameFault {
     Oversize,
 }
 
-impl FrameFault {
-    // The fault's layer, place and number.
-    pub fn report(&self) -> Report
-        ensures { result ≡ frame_report self.now }
-    {
+impl Fault for FrameFault {
+    ghost reported = { frame_report };
+
+    fn report(&self) -> Report {
         let (number, place) = match *self {
             FrameFault::Empty => (1, Some(0)),
             FrameFault::Start => (2, Some(0)),

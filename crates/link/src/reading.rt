@@ -6,7 +6,7 @@ ghost use Rattle.link.specs.Frames.{checksum as summed, end_checks, ack_checks, 
 ghost use Rattle.link.specs.Laws.{Reads};
 
 use crate::fault::FrameFault;
-use crate::frame::Frame;
+use crate::frame::{Frame, LongFrame};
 
 // The sum of the bytes modulo 256.
 pub(crate) fn checksum(bytes: &[u8]) -> u8
@@ -87,12 +87,27 @@ fn read_long(bytes: &[u8]) -> Result<Frame<'_>, FrameFault>
     }
     let size = length as usize + 6;
     check_end(bytes, 4, size)?;
-    Ok(Frame::Long {
+    Ok(Frame::Long(LongFrame {
         control: bytes[4],
         address: bytes[5],
         information: bytes[6],
         data: &bytes[7..size - 2],
-    })
+    }))
+}
+
+// The frame that the bytes are, by the first of them.
+#[tactic(auto, unfolding(crate::specs::Frames::frame_refusal))]
+fn read_any(bytes: &[u8]) -> Result<Frame<'_>, FrameFault>
+    ensures fault { frame_fault result ≡ frame_refusal bytes.now }
+    ensures bytes { IfOk result (λ f. written (parts f) ≡ bytes.now) }
+{
+    match bytes.first() {
+        None => Err(FrameFault::Empty),
+        Some(0xe5) => read_ack(bytes),
+        Some(0x10) => read_short(bytes),
+        Some(0x68) => read_long(bytes),
+        _ => Err(FrameFault::Start),
+    }
 }
 
 impl<'a> Frame<'a> {
@@ -103,14 +118,6 @@ impl<'a> Frame<'a> {
         ensures frame { parts_read result ≡ frame_of bytes.now }
         ensures reads { Reads bytes.now (parts_read result) }
     {
-        if bytes.len() == 0 {
-            return Err(FrameFault::Empty);
-        }
-        match bytes[0] {
-            0xe5 => read_ack(bytes),
-            0x10 => read_short(bytes),
-            0x68 => read_long(bytes),
-            _ => Err(FrameFault::Start),
-        }
+        read_any(bytes)
     }
 }

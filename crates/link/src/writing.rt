@@ -2,32 +2,34 @@
 ghost use Rattle.std.specs.Prelude.{◌≡◌, ◌≤◌, length, take, is_ok, IfOk, if◌then◌else◌, Some};
 ghost use Rattle.link.specs.Buffers.{filled};
 ghost use Rattle.link.specs.Faults.{frame_fault};
-ghost use Rattle.link.specs.Frames.{long, parts, write_refusal, written};
+ghost use Rattle.link.specs.Frames.{long_parts, parts, write_refusal, written};
 ghost use Rattle.link.specs.Laws.{Reads};
 
 use crate::buffer::{Buffer, append, fill};
 use crate::fault::FrameFault;
-use crate::frame::Frame;
+use crate::frame::{Frame, LongFrame};
 use crate::reading::checksum;
-
-// Fills the buffer with a long frame.
-fn write_long(buffer: &mut Buffer, control: u8, address: u8, information: u8, data: &[u8]) -> usize
-    requires { length «data».now ≤ 252 }
-    ensures buffer { buffer.new ≡ filled (written (long control address information «data».now)) }
-    ensures count { result ≡ length (written (long control address information «data».now)) }
-{
-    let length = (data.len() + 3) as u8;
-    let start = fill(
-        buffer,
-        &[0x68, length, length, 0x68, control, address, information],
-    );
-    let end = append(buffer, start, data);
-    let sum = checksum(&buffer[4..end]);
-    append(buffer, end, &[sum, 0x16])
-}
 
 // The most data that a long frame holds: L, at most 255, counts three bytes more.
 const MOST_DATA: usize = 252;
+
+impl LongFrame<'_> {
+    // Fills the buffer with the frame, then 00, and answers the count of the frame's bytes.
+    fn write(&self, buffer: &mut Buffer) -> usize
+        requires { length self.now.«data».now ≤ 252 }
+        ensures buffer { buffer.new ≡ filled (written (long_parts self.now)) }
+        ensures count { result ≡ length (written (long_parts self.now)) }
+    {
+        let length = (self.data.len() + 3) as u8;
+        let start = fill(
+            buffer,
+            &[0x68, length, length, 0x68, self.control, self.address, self.information],
+        );
+        let end = append(buffer, start, self.data);
+        let sum = checksum(&buffer[4..end]);
+        append(buffer, end, &[sum, 0x16])
+    }
+}
 
 impl Frame<'_> {
     // Fills the buffer with the frame, then 00, and answers the count of the frame's bytes.
@@ -44,16 +46,11 @@ impl Frame<'_> {
                 let sum = control.wrapping_add(address);
                 Ok(fill(buffer, &[0x10, control, address, sum, 0x16]))
             }
-            Frame::Long {
-                control,
-                address,
-                information,
-                data,
-            } => {
-                if data.len() > MOST_DATA {
+            Frame::Long(frame) => {
+                if frame.data.len() > MOST_DATA {
                     return Err(FrameFault::Oversize);
                 }
-                Ok(write_long(buffer, control, address, information, data))
+                Ok(frame.write(buffer))
             }
         }
     }

@@ -1,9 +1,8 @@
 // What a search reports, and why a master refuses.
-ghost use Rattle.std.specs.Prelude.{◌≡◌};
 ghost use Rattle.list.specs.Faults.{full_report};
 ghost use Rattle.master.specs.Faults.{fetch_report};
 
-use link::fault::{Layer, Report};
+use link::fault::{Fault, Layer, Report};
 use list::full::Full;
 
 // How many entries a search listed, and how many selections it sent.
@@ -19,11 +18,11 @@ pub struct SearchFault {
     pub summary: Summary,
 }
 
-impl SearchFault {
+impl Fault for SearchFault {
+    ghost reported = { λ _. full_report };
+
     // The fault's layer and number; it has no place.
-    pub fn report(&self) -> Report
-        ensures { result ≡ full_report }
-    {
+    fn report(&self) -> Report {
         Full.report()
     }
 }
@@ -39,11 +38,11 @@ pub enum FetchFault {
     Silent,
 }
 
-impl FetchFault {
+impl Fault for FetchFault {
+    ghost reported = { fetch_report };
+
     // The fault's layer and number; it has no place.
-    pub fn report(&self) -> Report
-        ensures { result ≡ fetch_report self.now }
-    {
+    fn report(&self) -> Report {
         let number = match self {
             FetchFault::Unanswered => 18,
             FetchFault::Garbled => 19,

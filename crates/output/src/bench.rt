@@ -11,12 +11,10 @@ pub struct SizesLine {
 
 impl fmt::Display for SizesLine {
     fn fmt<W: fmt::Write>(&self, f: &mut fmt::Formatter<W>) -> fmt::Result {
-        let meters = self.meters;
-        let codes = self.codes;
-        let layers = self.layers;
         write!(
             f,
-            "kind=bench meters={meters} codes={codes} layers={layers}"
+            "kind=bench meters={} codes={} layers={}",
+            self.meters, self.codes, self.layers
         )
     }
 }

@@ -1,4 +1,5 @@
 // What calls on a master gave.
+use crate::yes_no::YesNo;
 use master::fault::Summary;
 use std::fmt;
 
@@ -8,8 +9,10 @@ pub struct SearchLine(pub Summary);
 
 impl fmt::Display for SearchLine {
     fn fmt<W: fmt::Write>(&self, f: &mut fmt::Formatter<W>) -> fmt::Result {
-        let entries = self.0.entries;
-        let selections = self.0.selections;
+        let Summary {
+            entries,
+            selections,
+        } = self.0;
         write!(f, "kind=search entries={entries} selections={selections}")
     }
 }
@@ -22,8 +25,7 @@ pub struct PickedLine {
 
 impl fmt::Display for PickedLine {
     fn fmt<W: fmt::Write>(&self, f: &mut fmt::Formatter<W>) -> fmt::Result {
-        let answered = if self.answered { "yes" } else { "no" };
-        write!(f, "kind=picked answered={answered}")
+        write!(f, "kind=picked answered={}", YesNo(self.answered))
     }
 }
 
@@ -33,7 +35,7 @@ pub struct ReleasedLine;
 
 impl fmt::Display for ReleasedLine {
     fn fmt<W: fmt::Write>(&self, f: &mut fmt::Formatter<W>) -> fmt::Result {
-        write!(f, "kind=released")
+        f.write_str("kind=released")
     }
 }
 
@@ -45,7 +47,6 @@ pub struct MisuseLine {
 
 impl fmt::Display for MisuseLine {
     fn fmt<W: fmt::Write>(&self, f: &mut fmt::Formatter<W>) -> fmt::Result {
-        let call = self.call;
-        write!(f, "kind=misuse call={call}")
+        write!(f, "kind=misuse call={}", self.call)
     }
 }

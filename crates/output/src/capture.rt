@@ -9,8 +9,10 @@ pub struct CaptureLine {
 
 impl fmt::Display for CaptureLine {
     fn fmt<W: fmt::Write>(&self, f: &mut fmt::Formatter<W>) -> fmt::Result {
-        let meters = self.meters;
-        let telegrams = self.telegrams;
-        write!(f, "kind=capture meters={meters} telegrams={telegrams}")
+        write!(
+            f,
+            "kind=capture meters={} telegrams={}",
+            self.meters, self.telegrams
+        )
     }
 }

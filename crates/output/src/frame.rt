@@ -1,5 +1,5 @@
 // A frame.
-use link::frame::Frame;
+use link::frame::{Frame, LongFrame};
 use std::fmt;
 
 // A frame, and the number of its telegram.
@@ -11,26 +11,25 @@ pub struct FrameLine<'a> {
 
 impl fmt::Display for FrameLine<'_> {
     fn fmt<W: fmt::Write>(&self, f: &mut fmt::Formatter<W>) -> fmt::Result {
-        let telegram = self.telegram;
-        write!(f, "kind=frame telegram={telegram} type=")?;
+        write!(f, "kind=frame telegram={} type=", self.telegram)?;
         match self.frame {
-            Frame::Ack => write!(f, "ack"),
+            Frame::Ack => f.write_str("ack"),
             Frame::Short { control, address } => write!(
                 f,
                 "short control={control:02X} address={address:02X}"
             ),
-            Frame::Long {
-                control,
-                address,
-                information,
-                data,
-            } => {
-                let bytes = data.len();
-                write!(
-                    f,
-                    "long control={control:02X} address={address:02X} information={information:02X} bytes={bytes}"
-                )
-            }
+            Frame::Long(
+                LongFrame {
+                    control,
+                    address,
+                    information,
+                    data,
+                },
+            ) => write!(
+                f,
+                "long control={control:02X} address={address:02X} information={information:02X} bytes={}",
+                data.len()
+            ),
         }
     }
 }

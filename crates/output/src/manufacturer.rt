@@ -10,8 +10,11 @@ pub struct ManufacturerLine<'a> {
 
 impl fmt::Display for ManufacturerLine<'_> {
     fn fmt<W: fmt::Write>(&self, f: &mut fmt::Formatter<W>) -> fmt::Result {
-        let place = self.place;
-        let bytes = Hex(self.bytes);
-        write!(f, "kind=maker place={place} bytes={bytes}")
+        write!(
+            f,
+            "kind=maker place={} bytes={}",
+            self.place,
+            Hex(self.bytes)
+        )
     }
 }

@@ -25,13 +25,17 @@ pub struct ReplyLine {
 
 impl fmt::Display for ReplyLine {
     fn fmt<W: fmt::Write>(&self, f: &mut fmt::Formatter<W>) -> fmt::Result {
-        let address = AddressFields(self.reply.address);
-        let access = self.reply.access;
-        let status = self.reply.status;
-        let signature = self.reply.signature;
+        let Reply {
+            primary: _,
+            address,
+            access,
+            status,
+            signature,
+        } = self.reply;
         write!(
             f,
-            "kind=reply {address} access={access:02X} status={status:02X} signature={signature:04X}"
+            "kind=reply {} access={access:02X} status={status:02X} signature={signature:04X}",
+            AddressFields(address)
         )
     }
 }

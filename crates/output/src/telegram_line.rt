@@ -1,4 +1,5 @@
 // The end of a telegram whose body was read to its end.
+use crate::yes_no::YesNo;
 use std::fmt;
 
 #[derive(Drop)]
@@ -10,8 +11,11 @@ pub struct TelegramLine {
 
 impl fmt::Display for TelegramLine {
     fn fmt<W: fmt::Write>(&self, f: &mut fmt::Formatter<W>) -> fmt::Result {
-        let readings = self.readings;
-        let more = if self.more { "yes" } else { "no" };
-        write!(f, "kind=telegram readings={readings} more={more}")
+        write!(
+            f,
+            "kind=telegram readings={} more={}",
+            self.readings,
+            YesNo(self.more)
+        )
     }
 }

@@ -9,7 +9,6 @@ pub struct UnreadableLine {
 
 impl fmt::Display for UnreadableLine {
     fn fmt<W: fmt::Write>(&self, f: &mut fmt::Formatter<W>) -> fmt::Result {
-        let line = self.line;
-        write!(f, "kind=unreadable line={line}")
+        write!(f, "kind=unreadable line={}", self.line)
     }
 }

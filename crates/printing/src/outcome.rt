@@ -11,14 +11,12 @@ use std::io::Write;
 // Prints a line for each entry of a search, where an entry found no place that fault, and what the search reports.
 fn print_found<O: Write>(out: &mut O, found: &Found, entries: &[Entry]) -> io::Result<()> {
     for entry in entries.iter().skip(found.from).take(found.summary.entries) {
-        let line = EntryLine(*entry);
-        writeln!(out, "{line}")?;
+        writeln!(out, "{}", EntryLine(*entry))?;
     }
     if found.full {
-        print_fault(out, None, Full.report())?;
+        print_fault(out, None, &Full)?;
     }
-    let line = SearchLine(found.summary);
-    writeln!(out, "{line}")
+    writeln!(out, "{}", SearchLine(found.summary))
 }
 
 // Prints a telegram that was fetched. Answers whether more follow.
@@ -38,21 +36,13 @@ pub fn print_outcome<O: Write>(
     match outcome {
         Outcome::Found(found) => print_found(out, found, entries)?,
         Outcome::Picked(answered) => {
-            let line = PickedLine {
-                answered: *answered,
-            };
-            writeln!(out, "{line}")?
+            let answered = *answered;
+            writeln!(out, "{}", PickedLine { answered })?
         }
         Outcome::Fetched(telegram) => return print_fetched(out, telegram),
-        Outcome::Refused(fault) => print_fault(out, None, fault.report())?,
-        Outcome::Released => {
-            let line = ReleasedLine;
-            writeln!(out, "{line}")?
-        }
-        Outcome::Misuse => {
-            let line = MisuseLine { call };
-            writeln!(out, "{line}")?
-        }
+        Outcome::Refused(fault) => print_fault(out, None, fault)?,
+        Outcome::Released => writeln!(out, "{}", ReleasedLine)?,
+        Outcome::Misuse => writeln!(out, "{}", MisuseLine { call })?,
     }
     Ok(false)
 }

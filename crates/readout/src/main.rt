@@ -48,11 +48,8 @@ fn read_file(rt: &HostRuntime) -> io::Result<Vec<u8>> {
 
 // Prints why a capture is refused.
 fn print_refusal<O: Write>(out: &mut O, fault: CaptureFault) -> io::Result<()> {
-    let telegram = match fault.telegram {
-        Some(number) => Some(number as u64),
-        None => None,
-    };
-    print_fault(out, telegram, fault.report())
+    let telegram = fault.telegram.map(|number| number as u64);
+    print_fault(out, telegram, &fault)
 }
 
 // Makes one call, and prints its outcome. Answers whether a telegram was fetched that says that more follow.

@@ -1,8 +1,7 @@
 // Faults of records.
-ghost use Rattle.std.specs.Prelude.{◌≡◌};
 ghost use Rattle.record.specs.Faults.{record_report};
 
-use link::fault::{Layer, Report};
+use link::fault::{Fault, Layer, Report};
 
 // Why a record is refused, with the place of the offending byte.
 #[derive(Clone, Copy)]
@@ -21,11 +20,10 @@ pub enum RecordFault {
     Ended { place: usize },
 }
 
-impl RecordFault {
-    // The fault's layer, place and number.
-    pub fn report(&self) -> Report
-        ensures { result ≡ record_report self.now }
-    {
+impl Fault for RecordFault {
+    ghost reported = { record_report };
+
+    fn report(&self) -> Report {
         let (number, place) = match *self {
             RecordFault::DataField { place } => (11, place),
             RecordFault::Chain { place } => (12, place),

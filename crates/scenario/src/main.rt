@@ -7,7 +7,7 @@ use bench::bench::Bench;
 use house::house::House;
 use line::line::Line;
 use line::retry::Retry;
-use link::fault::Report;
+use link::fault::Fault;
 use output::bench::SizesLine;
 use output::unreadable::UnreadableLine;
 use printing::outcome::print_outcome;
@@ -36,8 +36,8 @@ struct Plan<'a> {
     places: usize,
 }
 
-fn print_making_fault<O: Write>(out: &mut O, report: Report) -> io::Result<()> {
-    print_fault(out, None, report)
+fn print_making_fault<O: Write, F: Fault>(out: &mut O, fault: &F) -> io::Result<()> {
+    print_fault(out, None, fault)
 }
 
 // How many of the calls to make at a time: up to the first search, so that each search has its places to itself.
@@ -114,21 +114,21 @@ fn make_layers<O: Write>(out: &mut O, bench: Bench, limits: &[u8], plan: Plan) -
     };
     let first = match Retry::new(bench, *limit) {
         Ok(layer) => layer,
-        Err(fault) => return print_making_fault(out, fault.report()),
+        Err(fault) => return print_making_fault(out, &fault),
     };
     let Some(limit) = limits.get(1) else {
         return run(out, first, plan);
     };
     let second = match Retry::new(first, *limit) {
         Ok(layer) => layer,
-        Err(fault) => return print_making_fault(out, fault.report()),
+        Err(fault) => return print_making_fault(out, &fault),
     };
     let Some(limit) = limits.get(2) else {
         return run(out, second, plan);
     };
     match Retry::new(second, *limit) {
         Ok(layer) => run(out, layer, plan),
-        Err(fault) => print_making_fault(out, fault.report()),
+        Err(fault) => print_making_fault(out, &fault),
     }
 }
 
@@ -144,7 +144,7 @@ fn make<O: Write>(out: &mut O, house: House) -> io::Result<()> {
     } = house;
     let bench = match Bench::new(rows, area, codes) {
         Ok(bench) => bench,
-        Err(fault) => return print_making_fault(out, fault.report()),
+        Err(fault) => return print_making_fault(out, &fault),
     };
     let sizes = SizesLine {
         meters: bench.meters(),

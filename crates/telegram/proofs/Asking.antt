@@ -1,9 +1,14 @@
 -- Requests, from bytes to what is understood and back.
-use Rattle.std.proofs.Common.{◌≡◌, ℕ, true, false, cond, ◌&&◌, ◌||◌, eqb, ◌⊎◌, List, [], ◌∷◌, length, take, Some, None, Option, sym, ap, ◌∙◌, subst, ap₂, inl, inr, ⊎_elim, arith}
+use Rattle.std.proofs.Common.{◌≡◌, ℕ, true, false, cond, ◌&&◌, ◌||◌, eqb, ◌⊎◌, List, [], ◌∷◌, length, take, Some, None, Ok, Err, Option, Result, sym, ap, ◌∙◌, subst, ap₂, inl, inr, ⊎_elim, arith}
 use Rattle.std.proofs.lemmas.Bool.{eq-eqb, cases_eq}
 use Rattle.std.proofs.lemmas.Bool.Decides.{nat_tests}
+use Rattle.std.specs.Option.{option_and_then}
+use Rattle.std.specs.Result.{result_ok}
+use Rattle.link.specs.declared.fault.FrameFault.{FrameFault}
+use Rattle.link.specs.declared.frame.Frame.{Frame}
 use Rattle.link.specs.Buffers.{filled}
-use Rattle.link.specs.Frames.{Parts, ack, short, long, frame_of, written}
+use Rattle.link.specs.Frames.{Parts, ack, short, long, frame_of, parts, parts_read, written}
+use Rattle.link.specs.Laws.{Reads}
 use Rattle.link.proofs.Filling.{take_filled}
 use Rattle.link.proofs.Judging.{frame_is}
 use Rattle.telegram.specs.declared.pattern.Pattern.{Pattern}
@@ -90,6 +95,13 @@ understood bs p (Some q) h e = (e ∙ sym (request_is bs p h), asks_in bs p q h 
 pub not_understood : (bs : List ℕ) → None ≡ frame_of bs → (None ≡ request_of bs) × Understands bs None
 unfolding request_of
 not_understood bs h = (ap request_among h, none_asked bs (sym (ap request_among h)))
+
+-- what was read, if it is a frame
+pub heard : (bs : List ℕ) (f : Result Frame FrameFault) (r : Option Request) → parts_read f ≡ frame_of bs → Reads bs (parts_read f) → r ≡ option_and_then (λ g. request_in (parts g)) (result_ok f) → (r ≡ request_of bs) × Understands bs r
+heard bs (Ok f) r h k e = understood bs (parts f) r k.writes_back e
+heard bs (Err t) r h k e =
+    let P : Option Request → Type 0 = λ x. (x ≡ request_of bs) × Understands bs x in
+    subst P (sym e) (not_understood bs h)
 
 -- what was sent is understood
 pub sent : (q : Request) (p : Parts) (n : ℕ) (buffer : List ℕ) → request_in p ≡ Some q → buffer ≡ filled (written p) → n ≡ length (written p) → request_of (take n buffer) ≡ Some q

@@ -1,4 +1,5 @@
 pub mod Asking
 pub mod Fitting
 pub mod Replying
+pub mod Telling
 pub mod Writing

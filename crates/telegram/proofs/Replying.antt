@@ -4,6 +4,7 @@ use Rattle.std.specs.List.{between}
 use Rattle.std.proofs.lemmas.List.{append_assoc, get_or_append_left, length-append, length-take-le, take-append-drop}
 use Rattle.std.proofs.lemmas.Bool.{and_parts, cases_lt, le-leb, lt-leb, not-true, not_from_false}
 use Rattle.std.proofs.lemmas.Bool.Decides.{nat_tests}
+use Rattle.link.specs.declared.frame.LongFrame.{LongFrame}
 use Rattle.link.specs.declared.frame.Frame.{Frame}
 use Rattle.link.specs.declared.frame.Frame.TheVariants.{Ack, Short, Long}
 use Rattle.link.specs.declared.fault.FrameFault.{FrameFault}
@@ -49,10 +50,10 @@ long_refusal : (bs : List ℕ) (c a i : ℕ) (d : List ℕ) → None ≡ frame_r
 long_refusal bs c a i d n h =
     sym (at_long c a i d) ∙ ap (λ x. first_fault (telegram_checks x)) h ∙ goes_on bs n
 
-other_refusal : (bs : List ℕ) (f : Frame) → ((c a i : ℕ) (d : _) → f ≡ Long c a i d → ⊥) → None ≡ frame_refusal bs → written (parts f) ≡ bs → Some (not_reply 0) ≡ reply_refusal bs
+other_refusal : (bs : List ℕ) (f : Frame) → ((g : LongFrame) → f ≡ Long g → ⊥) → None ≡ frame_refusal bs → written (parts f) ≡ bs → Some (not_reply 0) ≡ reply_refusal bs
 other_refusal bs Ack no_long n h = ap (λ x. first_fault (telegram_checks x)) h ∙ goes_on bs n
 other_refusal bs (Short c a) no_long n h = ap (λ x. first_fault (telegram_checks x)) h ∙ goes_on bs n
-other_refusal bs (Long c a i d) no_long n h = absurd (no_long c a i d refl)
+other_refusal bs (Long g) no_long n h = absurd (no_long g refl)
 
 -- the body of a long frame with enough data
 body_is : (bs : List ℕ) (c a i : ℕ) (d : List ℕ) → 12 ≤ length d → written (long c a i d) ≡ bs → body_of bs ≡ drop 12 d
@@ -129,7 +130,7 @@ framed_long bs r c a i d f p h =
     record { told = told; reads = reads_reply bs r told (reply_bytes r bs c a i d f p h) }
 
 -- any other
-pub framed_other : (f : Frame) → ((c a i : ℕ) (d : _) → f ≡ Long c a i d → ⊥) → Framed (written (parts f)) (Err (fault.NotReply 0))
+pub framed_other : (f : Frame) → ((g : LongFrame) → f ≡ Long g → ⊥) → Framed (written (parts f)) (Err (fault.NotReply 0))
 framed_other f no_long =
     let bs = written (parts f) in
     let told = other_refusal bs f no_long (sym (accepts (parts f))) refl in

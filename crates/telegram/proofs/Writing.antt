@@ -11,7 +11,7 @@ use Rattle.telegram.specs.declared.address.Address.{Address}
 use Rattle.telegram.specs.declared.reply.Reply.{Reply}
 use Rattle.telegram.specs.Addresses.{address_bytes}
 use Rattle.telegram.specs.Digits.{decimal_number}
-use Rattle.telegram.specs.Replies.{body_refusal, is_reply, reply_parts}
+use Rattle.telegram.specs.Replies.{body_refusal, head_of, is_reply, reply_parts}
 use Rattle.telegram.proofs.Replying.{passes}
 
 -- the data of a reply telegram with this body
@@ -41,10 +41,9 @@ written_is_reply t body =
     let number : decimal_number (data_of t body) ≡ true = simp append_assoc (still_decimal a.number ((a.manufacturer % 256) ∷ (a.manufacturer / 256) ∷ a.version ∷ a.medium ∷ rest) a.sized a.decimal) in
     ap (λ o. not (is_some o)) (passes (written (reply_parts t body)) t.primary (data_of t body) (omega (arith, data_size_is t body)) number refl)
 
--- the data, put together part by part
-pub joined : (t : Reply) (body a s d : List ℕ) → a ≡ address_bytes t.address → s ≡ (t.signature % 256) ∷ (t.signature / 256) ∷ [] → d ≡ ((a ++ t.access ∷ t.status ∷ []) ++ s) ++ body → long 0x08 t.primary 0x72 d ≡ reply_parts t body
-joined t body a s d e f h =
-    ap (long 0x08 t.primary 0x72) (h ∙ simp (e, f, append_assoc))
+-- the data, put together from what stands before the body and the body
+pub joined : (t : Reply) (body d : List ℕ) → d ≡ head_of t ++ body → long 0x08 t.primary 0x72 d ≡ reply_parts t body
+joined t body d h = ap (long 0x08 t.primary 0x72) (h ∙ append_assoc (address_bytes t.address) (t.access ∷ t.status ∷ (t.signature % 256) ∷ (t.signature / 256) ∷ []) body)
 
 -- all that writing promises, from what the writing of the frame does
 pub record Wrote (t : Reply) (body : List ℕ) (r : Result ℕ FrameFault) (before after : List ℕ) : Type 0 where

@@ -1,14 +1,16 @@
 -- Reply telegrams: long frames in which a meter answers.
-use Rattle.std.specs.Prelude.{◌≡◌, ℕ, ◌-◌, ◌/◌, ◌%◌, ◌≤◌, Bool, true, false, cond, not, ◌&&◌, ◌||◌, List, ◌∷◌, ◌++◌, length, drop, is_some, Some, None, Ok, Err, Option, Result, ◌==◌, ◌≢◌, nat_le, slice_index}
+use Rattle.std.specs.Prelude.{◌≡◌, ℕ, ◌-◌, ◌/◌, ◌%◌, ◌≤◌, Bool, true, false, cond, not, ◌&&◌, ◌||◌, List, [], ◌∷◌, ◌++◌, length, drop, is_some, Some, None, Ok, Err, Option, Result, ◌==◌, ◌≢◌, nat_le, slice_index}
 use Rattle.std.specs.List.{between}
 use Rattle.link.specs.declared.fault.Layer.TheVariants as layer
 use Rattle.link.specs.declared.fault.Report.{Report}
 use Rattle.link.specs.Checks.{Check, must, first_fault}
 use Rattle.link.specs.Faults.{report_at, report_of}
-use Rattle.link.specs.Frames.{Parts, long, frame_checks, written}
+use Rattle.link.specs.Frames.{Parts, long, frame_checks, parts, written}
+use Rattle.link.specs.declared.frame.Frame.{Frame}
 use Rattle.telegram.specs.declared.fault.ReplyFault.{ReplyFault}
 use Rattle.telegram.specs.declared.reply.Reply.{Reply}
 use Rattle.telegram.specs.Addresses.{address_bytes}
+use Rattle.telegram.specs.Faults.{reply_fault}
 use Rattle.telegram.specs.Digits.{decimal_number, digit_checks}
 
 -- the control byte of a reply telegram
@@ -52,6 +54,11 @@ long_reply_checks control information d =
 abbrev pub body_of : List ℕ → List ℕ
 body_of bs = between 19 (length bs - 2) bs
 
+-- the data before the body
+abbrev pub head_of : Reply → List ℕ
+head_of t =
+    address_bytes t.address ++ t.access ∷ t.status ∷ (t.signature % 256) ∷ (t.signature / 256) ∷ []
+
 -- the frame of a reply telegram with this body
 abbrev pub reply_parts : Reply → List ℕ → Parts
 reply_parts t body =
@@ -68,6 +75,11 @@ abbrev pub ReadsReply : List ℕ → Result Reply ReplyFault → Type 0
 ReadsReply bs (Ok t) = written (reply_parts t (body_of bs)) ≡ bs
 ReadsReply bs (Err e) =
     (address : ℕ) (d : List ℕ) → 12 ≤ length d → decimal_number d ≡ true → written (long 0x08 address 0x72 d) ≢ bs
+
+-- the reply telegram that a frame is, or the fault of the first check that fails
+pub record ReplyIn (f : Frame) (r : Result Reply ReplyFault) : Type 0 where
+  pub fault : reply_fault r ≡ reply_refusal (written (parts f))
+  pub reads : ReadsReply (written (parts f)) r
 
 -- the acknowledgement alone
 abbrev pub is_ack : List ℕ → Bool

@@ -3,7 +3,7 @@ ghost use Rattle.std.specs.Prelude.{◌≡◌};
 ghost use Rattle.telegram.specs.declared.fault.ReplyFault.TheVariants.{Frame};
 ghost use Rattle.telegram.specs.Faults.{reply_report};
 
-use link::fault::{FrameFault, Layer, Report};
+use link::fault::{Fault, FrameFault, Layer, Report};
 
 // Why some bytes are no reply telegram, or no address.
 #[derive(Clone, Copy)]
@@ -16,11 +16,10 @@ pub enum ReplyFault {
     Digit { place: usize },
 }
 
-impl ReplyFault {
-    // The fault's layer, place and number.
-    pub fn report(&self) -> Report
-        ensures { result ≡ reply_report self.now }
-    {
+impl Fault for ReplyFault {
+    ghost reported = { reply_report };
+
+    fn report(&self) -> Report {
         let (number, place) = match *self {
             ReplyFault::Frame(fault) => return fault.report(),
             ReplyFault::NotReply { place } => (9, place),

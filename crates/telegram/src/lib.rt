@@ -2,6 +2,7 @@
 #![tactic(auto)]
 
 pub mod address;
+pub mod digits;
 pub mod fault;
 pub mod pattern;
 pub mod reply;

@@ -31,6 +31,7 @@ impl Pattern {
     pub fn fits(&self, address: &Address) -> bool
         ensures { result ≡ fits self.now.bytes (address_bytes address.now) }
     {
+        // byte by byte: the halves fit by different rules, and two chains over their pairs are no shorter
         let p = self.bytes;
         let a = address.bytes();
         let number = fits_digits(p[0], a[0])

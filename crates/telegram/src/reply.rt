@@ -3,15 +3,15 @@ ghost use Rattle.std.specs.Prelude.{◌≡◌, ◌+◌, ◌≤◌, true, ◌++�
 ghost use Rattle.link.specs.Buffers.{filled};
 ghost use Rattle.link.specs.Checks.{FailsFirst, first_fault};
 ghost use Rattle.link.specs.Faults.{frame_fault};
-ghost use Rattle.link.specs.Frames.{frame_refusal, long, parts, written};
+ghost use Rattle.link.specs.Frames.{frame_refusal, long_parts, written};
 ghost use Rattle.telegram.specs.Faults.{Rises, reply_fault};
-ghost use Rattle.telegram.specs.Replies.{Garbled, ReadsReply, answers, body_of, body_refusal, is_ack, is_reply, long_reply_checks, reply_checks, reply_parts, reply_refusal};
+ghost use Rattle.telegram.specs.Replies.{Garbled, ReadsReply, ReplyIn, answers, body_of, head_of, body_refusal, is_ack, is_reply, long_reply_checks, reply_checks, reply_parts, reply_refusal};
 
 use crate::address::Address;
 use crate::fault::ReplyFault;
-use link::buffer::Buffer;
+use link::buffer::{Buffer, append};
 use link::fault::FrameFault;
-use link::frame::Frame;
+use link::frame::{Frame, LongFrame};
 
 // A reply telegram, apart from its body.
 #[derive(Clone, Copy)]
@@ -37,46 +37,26 @@ impl Reply {
         ensures reads { ReadsReply bytes.now result }
     {
         let frame = Frame::read(bytes)?;
-        Reply::from_frame(&frame)
+        Reply::try_from(frame)
     }
 
-    // The reply telegram that a frame is, or the first fault in it.
-    pub fn from_frame(frame: &Frame) -> Result<Reply, ReplyFault>
-        ensures fault { reply_fault result ≡ reply_refusal (written (parts frame.now)) }
-        ensures reads { ReadsReply (written (parts frame.now)) result }
+    // The reply telegram that a long frame is, or the first fault in it.
+    fn from_long(frame: LongFrame) -> Result<Reply, ReplyFault>
+        ensures fault { reply_fault result ≡ first_fault (long_reply_checks frame.entry.control frame.entry.information frame.entry.«data».now) }
+        ensures parts { IfOk result (λ t. reply_parts t (drop 12 frame.entry.«data».now) ≡ long_parts frame.entry) }
     {
-        match *frame {
-            Frame::Long {
-                control,
-                address,
-                information,
-                data,
-            } => Reply::from_long(control, address, information, data),
-            _ => Err(ReplyFault::NotReply { place: 0 }),
-        }
-    }
-
-    // The reply telegram that a long frame is.
-    fn from_long(
-        control: u8,
-        primary: u8,
-        information: u8,
-        data: &[u8],
-    ) -> Result<Reply, ReplyFault>
-        ensures fault { reply_fault result ≡ first_fault (long_reply_checks control information «data».now) }
-        ensures parts { IfOk result (λ t. reply_parts t (drop 12 «data».now) ≡ long control primary information «data».now) }
-    {
-        if control != 0x08 {
+        if frame.control != 0x08 {
             return Err(ReplyFault::NotReply { place: 4 });
         }
-        if information != 0x72 {
+        if frame.information != 0x72 {
             return Err(ReplyFault::NotReply { place: 6 });
         }
+        let data = frame.data;
         if data.len() < 12 {
             return Err(ReplyFault::NotReply { place: 1 });
         }
         Ok(Reply {
-            primary,
+            primary: frame.address,
             address: Address::at(data, 7)?,
             access: data[8],
             status: data[9],
@@ -95,6 +75,15 @@ impl Reply {
         &bytes[19..bytes.len() - 2]
     }
 
+    // The data of the reply telegram before its body.
+    fn head(self) -> [u8; 12]
+        ensures { result ≡ head_of self }
+    {
+        let [a, b, c, d, e, f, g, h] = self.address.bytes();
+        let [low, high] = self.signature.to_le_bytes();
+        [a, b, c, d, e, f, g, h, self.access, self.status, low, high]
+    }
+
     // Fills the buffer with the reply telegram that has this body, then 00, and answers the count of its bytes.
     // A body over 240 bytes is refused, and the buffer keeps what it had.
     pub fn write(&self, body: &[u8], buffer: &mut Buffer) -> Result<usize, FrameFault>
@@ -107,36 +96,37 @@ impl Reply {
             return Err(FrameFault::Oversize);
         }
         let mut data = [0; 252];
-        let access = append(&mut data, 0, &self.address.bytes());
-        let signature = append(&mut data, access, &[self.access, self.status]);
-        let start = append(&mut data, signature, &self.signature.to_le_bytes());
+        let start = append(&mut data, 0, &self.head());
         let end = append(&mut data, start, body);
-        let frame = Frame::Long {
+        let frame = LongFrame {
             control: 0x08,
             address: self.primary,
             information: 0x72,
             data: &data[0..end],
         };
-        frame.write(buffer)
+        Frame::Long(frame).write(buffer)
     }
 }
 
-// Puts some bytes behind the first of a frame's data, and answers how many there are then.
-fn append(data: &mut [u8; 252], at: usize, bytes: &[u8]) -> usize
-    requires { at + length bytes.now ≤ 252 }
-    ensures front { take result «data».new ≡ take at «data».old ++ bytes.now }
-    ensures count { result ≡ at + length bytes.now }
-{
-    let end = at + bytes.len();
-    data[at..end].copy_from_slice(bytes);
-    end
+// The reply telegram that a frame is, or the first fault in it.
+impl TryFrom<Frame<'_>> for Reply {
+    type Error = ReplyFault;
+
+    ghost try_from_gives = { ReplyIn };
+
+    fn try_from(frame: Frame<'_>) -> Result<Reply, ReplyFault> {
+        match frame {
+            Frame::Long(frame) => Reply::from_long(frame),
+            _ => Err(ReplyFault::NotReply { place: 0 }),
+        }
+    }
 }
 
 // The acknowledgement alone.
 fn is_ack_alone(bytes: &[u8]) -> bool
     ensures { result ≡ is_ack bytes.now }
 {
-    bytes.len() == 1 && bytes[0] == 0xe5
+    matches!(bytes, [0xe5])
 }
 
 // An answer: the acknowledgement alone, or a reply telegram.
@@ -153,11 +143,5 @@ const MOST_BYTES: usize = 261;
 pub fn is_garbled(bytes: &[u8]) -> bool
     ensures { Decides result (Garbled bytes.now) }
 {
-    if bytes.len() == 0 {
-        return false;
-    }
-    if bytes.len() > MOST_BYTES {
-        return false;
-    }
-    !is_answer(bytes)
+    (1..=MOST_BYTES).contains(&bytes.len()) && !is_answer(bytes)
 }

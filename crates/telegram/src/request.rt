@@ -6,7 +6,13 @@ ghost use Rattle.telegram.specs.Requests.{Understands, request_bytes, request_fr
 
 use crate::pattern::Pattern;
 use link::buffer::Buffer;
-use link::frame::Frame;
+use link::frame::{Frame, LongFrame};
+
+// The address behind which the selected meters answer.
+const SELECTED: u8 = 0xfd;
+
+// The CI of a selection.
+const SELECTION: u8 = 0x52;
 
 // What a master asks.
 #[derive(Clone, Copy)]
@@ -34,45 +40,38 @@ impl Request {
         ensures value { result ≡ request_of bytes.now }
         ensures understands { Understands bytes.now result }
     {
-        match Frame::read(bytes) {
-            Ok(frame) => Request::of(&frame),
-            Err(_) => None,
-        }
+        Frame::read(bytes).map_or(None, Request::of)
     }
 
     // The request that a frame is, if it is one.
-    fn of(frame: &Frame) -> Option<Request>
-        ensures { result ≡ request_in (parts frame.now) }
+    fn of(frame: Frame) -> Option<Request>
+        ensures { result ≡ request_in (parts frame.entry) }
     {
-        match *frame {
-            Frame::Ack => None,
-            Frame::Short { control, address } => {
-                if address != 0xfd {
-                    return None;
-                }
-                match control {
-                    0x7b => Some(Request::Fetch { bit: true }),
-                    0x5b => Some(Request::Fetch { bit: false }),
-                    0x40 => Some(Request::Release),
-                    _ => None,
-                }
-            }
-            Frame::Long {
-                control,
-                address,
-                information,
-                data,
-            } => {
-                if control != 0x53 && control != 0x73 {
-                    return None;
-                }
-                if address != 0xfd || information != 0x52 || data.len() != 8 {
-                    return None;
-                }
-                let mut bytes = [0; 8];
-                bytes.copy_from_slice(data);
+        match frame {
+            Frame::Short {
+                control: 0x7b,
+                address: SELECTED,
+            } => Some(Request::Fetch { bit: true }),
+            Frame::Short {
+                control: 0x5b,
+                address: SELECTED,
+            } => Some(Request::Fetch { bit: false }),
+            Frame::Short {
+                control: 0x40,
+                address: SELECTED,
+            } => Some(Request::Release),
+            Frame::Long(
+                LongFrame {
+                    control: 0x53 | 0x73,
+                    address: SELECTED,
+                    information: SELECTION,
+                    data,
+                },
+            ) => {
+                let bytes = <[u8; 8]>::try_from(data).ok()?;
                 Some(Request::Selection(Pattern { bytes }))
             }
+            _ => None,
         }
     }
 
@@ -84,12 +83,12 @@ impl Request {
     {
         let control = match self {
             Request::Selection(pattern) => {
-                return Frame::Long {
+                return Frame::Long(LongFrame {
                     control: 0x53,
-                    address: 0xfd,
-                    information: 0x52,
+                    address: SELECTED,
+                    information: SELECTION,
                     data: &pattern.bytes,
-                };
+                });
             }
             Request::Fetch { bit: true } => 0x7b,
             Request::Fetch { bit: false } => 0x5b,
@@ -97,7 +96,7 @@ impl Request {
         };
         Frame::Short {
             control,
-            address: 0xfd,
+            address: SELECTED,
         }
     }
 

@@ -1,21 +1,23 @@
 // Making addresses from bytes and turning them into bytes again.
-ghost use Rattle.std.specs.Prelude.{◌≡◌, ◌≤◌, length, take, IfOk, Decides};
-ghost use Rattle.link.specs.Checks.{FailsFirst, first_fault};
-ghost use Rattle.telegram.specs.Addresses.{address_bytes};
-ghost use Rattle.telegram.specs.Digits.{decimal as both_decimal, digit_checks};
+ghost use Rattle.std.specs.Prelude.{◌≡◌, ◌≤◌, not, length, take, IfOk, Decides};
+ghost use Rattle.std.specs.List.{position};
+ghost use Rattle.link.specs.Checks.{first_fault};
+ghost use Rattle.telegram.specs.Addresses.{AddressIn, address_bytes};
+ghost use Rattle.telegram.specs.Digits.{decimal, digit_checks};
 ghost use Rattle.telegram.specs.Faults.{reply_fault};
 ghost use Rattle.std.specs.Cmp.Rules.{comparing};
 ghost use Rattle.std.specs.Str.{bytes_eq};
 ghost use Rattle.std.proofs.Common.{rules};
 
 use super::Address;
+use crate::digits::is_decimal;
 use crate::fault::ReplyFault;
 
-// Both digits of a byte are at most 9.
-fn decimal(byte: u8) -> bool
-    ensures { result ≡ both_decimal byte }
+// The place of the first byte with a digit above 9.
+fn first_bad(number: &[u8]) -> Option<usize>
+    ensures { result ≡ position (λ b. not (decimal b)) number.now }
 {
-    byte % 16 <= 9 && byte / 16 <= 9
+    number.iter().position(|byte| !is_decimal(*byte))
 }
 
 // Refuses a number with a digit above 9, where its first byte stands at `start`.
@@ -23,19 +25,10 @@ fn check_digits(number: [u8; 4], start: usize) -> Result<(), ReplyFault>
     requires { start ≤ 7 }
     ensures { reply_fault result ≡ first_fault (digit_checks start number) }
 {
-    if !decimal(number[0]) {
-        return Err(ReplyFault::Digit { place: start });
+    match first_bad(&number) {
+        None => Ok(()),
+        Some(at) => Err(ReplyFault::Digit { place: start + at }),
     }
-    if !decimal(number[1]) {
-        return Err(ReplyFault::Digit { place: start + 1 });
-    }
-    if !decimal(number[2]) {
-        return Err(ReplyFault::Digit { place: start + 2 });
-    }
-    if !decimal(number[3]) {
-        return Err(ReplyFault::Digit { place: start + 3 });
-    }
-    Ok(())
 }
 
 impl Address {
@@ -56,31 +49,24 @@ impl Address {
         })
     }
 
-    // The address that eight bytes hold, or the place of the first byte with a digit above 9.
-    pub fn from_bytes(bytes: &[u8; 8]) -> Result<Address, ReplyFault>
-        ensures fault { reply_fault result ≡ first_fault (digit_checks 0 bytes.now) }
-        ensures order { FailsFirst (digit_checks 0 bytes.now) (reply_fault result) }
-        ensures bytes { IfOk result (λ a. address_bytes a ≡ bytes.now) }
-    {
-        Address::at(bytes, 0)
-    }
-
     // The address as it travels.
     pub fn bytes(&self) -> [u8; 8]
         ensures { result ≡ address_bytes self.now }
     {
-        let n = self.number;
-        let manufacturer = self.manufacturer.to_le_bytes();
-        [
-            n[0],
-            n[1],
-            n[2],
-            n[3],
-            manufacturer[0],
-            manufacturer[1],
-            self.version,
-            self.medium,
-        ]
+        let [a, b, c, d] = self.number;
+        let [low, high] = self.manufacturer.to_le_bytes();
+        [a, b, c, d, low, high, self.version, self.medium]
+    }
+}
+
+// The address that eight bytes hold, or the place of the first byte with a digit above 9.
+impl TryFrom<[u8; 8]> for Address {
+    type Error = ReplyFault;
+
+    ghost try_from_gives = { AddressIn };
+
+    fn try_from(bytes: [u8; 8]) -> Result<Address, ReplyFault> {
+        Address::at(&bytes, 0)
     }
 }
 

@@ -8,5 +8,5 @@ use Rattle.house.proofs.address.read_address.Goals as goal
 
 pub unwrap-requires : goal.unwrap-requires
 unwrap-requires c =
-    let f : reply_fault c.from_bytes.result ≡ first_fault (digit_checks 0 (address_of c.args.number.now c.args.maker.now c.args.version.now c.args.medium.now)) = search rules in
-    is_made c.from_bytes.result c.args.number.now c.args.maker.now c.args.version.now c.args.medium.now (sym c.if-not-is_spelled.ensures) f
+    let f : reply_fault c.try_from.result ≡ first_fault (digit_checks 0 (address_of c.args.number.now c.args.maker.now c.args.version.now c.args.medium.now)) = search rules in
+    is_made c.try_from.result c.args.number.now c.args.maker.now c.args.version.now c.args.medium.now (sym c.if-not-is_spelled.ensures) f

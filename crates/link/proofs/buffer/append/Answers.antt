@@ -1,12 +1,7 @@
-use Rattle.std.proofs.Common.{◌+◌, ◌-◌, length, refl, arith}
-use Rattle.link.proofs.Filling.{filled_more}
+use Rattle.std.proofs.Common.{arith}
+use Rattle.std.proofs.lemmas.Slice.{drop-put_mid}
 use Rattle.link.proofs.buffer.append.Goals as goal
 
-pub returns : goal.returns
-returns c =
-    let bs = c.args.bytes.now in
-    let at = c.args.at in
-    record {
-      buffer = λ front h e. simp (e, c.copy_from_slice.ensures.after) (filled_more front bs at (at + length bs - at) h (omega arith) (omega arith));
-      count = refl;
-    }
+pub returns-clause-rest : goal.returns-clause-rest
+returns-clause-rest c =
+    drop-put_mid c.min-start.result _ c.args.buffer.now c.copy_from_slice.new.self _ (omega arith) (omega arith) (omega arith)

@@ -12,5 +12,5 @@ returns-in_err-frame c =
 pub returns : goal.returns
 returns c =
     let e = c.in_ok-frame.ensures in
-    let j = judged c.args.bytes.now (parts c.in_ok-frame.frame) c.from_frame.result e.reads.writes_back c.from_frame.ensures.fault c.from_frame.ensures.reads in
+    let j = judged c.args.bytes.now (parts c.in_ok-frame.frame) c.try_from.result e.reads.writes_back c.try_from.ensures.fault c.try_from.ensures.reads in
     record { fault = j.told; order = j.order; rises = j.rises; reads = j.reads }

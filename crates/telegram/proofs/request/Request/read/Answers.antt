@@ -1,13 +1,13 @@
+use Rattle.std.proofs.Common.{◌≡◌, rules}
+use Rattle.std.specs.Option.{option_and_then}
+use Rattle.std.specs.Result.{result_ok}
 use Rattle.link.specs.Frames.{parts}
-use Rattle.telegram.proofs.Asking.{understood, not_understood}
+use Rattle.telegram.specs.Requests.{request_in}
+use Rattle.telegram.proofs.Asking.{heard}
 use Rattle.telegram.proofs.request.Request.read.Goals as goal
 
-pub returns-in-Ok : goal.returns-in-Ok
-returns-in-Ok c =
-    let h = understood c.args.bytes.now (parts c.in-Ok.frame) c.of.result c.in-Ok.ensures.reads.writes_back c.of.ensures in
-    record { value = h.0; understands = h.1 }
-
-pub returns-in-Err : goal.returns-in-Err
-returns-in-Err c =
-    let h = not_understood c.args.bytes.now c.in-Err.ensures.frame in
+pub returns : goal.returns
+returns c =
+    let given : c.map_or.result ≡ option_and_then (λ f. request_in (parts f)) (result_ok c.read.result) = search rules in
+    let h = heard c.args.bytes.now c.read.result c.map_or.result c.read.ensures.frame c.read.ensures.reads given in
     record { value = h.0; understands = h.1 }
