@@ -23,7 +23,12 @@ filled_more front bs old new at n h room e count front_is rest_is =
     let left : 261 - length front - length xs ≡ 261 - length (front ++ xs) = omega (arith, length-append front xs) in
     let written : take n new ≡ front ++ xs = front_is ∙ ap (λ k. take at old ++ take (k - at) bs) all ∙ ap (λ x. x ++ xs) (ap (take at) e ∙ take_at front zeros at h) in
     let zeros_left : drop n new ≡ replicate (261 - length (front ++ xs)) 0 =
-    rest_is ∙ ap (λ k. drop k old) n_is ∙ ap (drop (length front + length xs)) e ∙ drop-append-add front zeros (length xs) ∙ drop-replicate (length xs) (261 - length front) 0 ∙ ap (λ k. replicate k 0) left in
+    rest_is
+    ∙ ap (λ k. drop k old) n_is
+    ∙ ap (drop (length front + length xs)) e
+    ∙ drop-append-add front zeros (length xs)
+    ∙ drop-replicate (length xs) (261 - length front) 0
+    ∙ ap (λ k. replicate k 0) left in
     sym (take-append-drop n new) ∙ ap (λ x. x ++ drop n new) written ∙ ap (λ y. (front ++ xs) ++ y) zeros_left
 
 -- the same where there is room for all

@@ -23,7 +23,15 @@ impl LongFrame<'_> {
         let length = (self.data.len() + 3) as u8;
         let start = fill(
             buffer,
-            &[0x68, length, length, 0x68, self.control, self.address, self.information],
+            &[
+                0x68,
+                length,
+                length,
+                0x68,
+                self.control,
+                self.address,
+                self.information,
+            ],
         );
         let end = append(buffer, start, self.data);
         let sum = checksum(&buffer[4..end]);
