@@ -40,8 +40,7 @@ impl<L> Retry<L> {
     pub fn into_below(self) -> L
         ensures { result ≡ self.below }
     {
-        let Retry { below, limit: _ } = self;
-        below
+        self.below
     }
 }
 

@@ -61,8 +61,7 @@ impl<L: Line> Idle<L> {
     pub fn into_line(self) -> L
         ensures { result ≡ self.line }
     {
-        let Idle { line } = self;
-        line
+        self.line
     }
 
     // Lists the meters of the line, and sends the release.
@@ -75,33 +74,24 @@ impl<L: Line> Idle<L> {
         ensures lender { lender list.new ≡ lender list.old }
         ensures layers { L.tries self.new.line ≡ L.tries self.old.line }
     {
-        let end = walk(&mut self.line, list);
+        let found = walk(&mut self.line, list);
         send_release(&mut self.line);
-        let summary = Summary {
-            entries: list.entries().len(),
-            selections: end.selections,
-        };
-        if end.full {
-            Err(SearchFault { summary })
-        } else {
-            Ok(summary)
-        }
+        found
     }
 
     // Sends the address as a pattern, and notes whether any reply came.
-    pub fn pick(self, address: Address) -> Picked<L>
+    pub fn pick(mut self, address: Address) -> Picked<L>
         ensures sent { Selects (L.means self.line) (address_bytes address) result.answered result.bit (L.means result.line) }
         ensures starts { (m : Meter) → fitting (Some (pattern_of (address_bytes address))) (L.means self.line).bus.meters ≡ m ∷ [] → Starts (L.means self.line) (address_bytes address) m result.answered result.bit (L.means result.line) }
         ensures layers { L.tries result.line ≡ L.tries self.line }
     {
-        let Idle { mut line } = self;
         let mut buffer = new_buffer();
         let pattern = Pattern {
             bytes: address.bytes(),
         };
-        let count = send(&mut line, &Request::Selection(pattern), &mut buffer);
+        let count = send(&mut self.line, &Request::Selection(pattern), &mut buffer);
         Picked {
-            line,
+            line: self.line,
             answered: count > 0,
             bit: true,
         }
@@ -129,12 +119,7 @@ impl<L: Line> Picked<L> {
     pub fn into_line(self) -> L
         ensures { result ≡ self.line }
     {
-        let Picked {
-            line,
-            answered: _,
-            bit: _,
-        } = self;
-        line
+        self.line
     }
 
     // Fetches the next telegram of the picked meter into the buffer: the count of its bytes. A refusal leaves the
@@ -163,17 +148,12 @@ impl<L: Line> Picked<L> {
     }
 
     // Sends the release.
-    pub fn release(self) -> Idle<L>
+    pub fn release(mut self) -> Idle<L>
         ensures sent { Releases (L.means self.line) (L.means result.line) }
         ensures clear { Clears (L.means self.line) (L.means result.line) }
         ensures layers { L.tries result.line ≡ L.tries self.line }
     {
-        let Picked {
-            mut line,
-            answered: _,
-            bit: _,
-        } = self;
-        send_release(&mut line);
-        Idle { line }
+        send_release(&mut self.line);
+        Idle { line: self.line }
     }
 }

@@ -1,5 +1,5 @@
 -- The laws of every run.
-use Rattle.std.proofs.Common.{◌≡◌, ℕ, suc, ◌+◌, ◌-◌, Bool, List, [], ◌∷◌, ◌++◌, length, take, drop, sym, refl, ap, ◌∙◌, subst, append_assoc, append-nil, arith}
+use Rattle.std.proofs.Common.{◌≡◌, ℕ, suc, ◌+◌, ◌-◌, Bool, List, [], ◌∷◌, ◌++◌, length, take, drop, sym, refl, ap, ◌∙◌, subst, append_assoc, append-nil, arith, Ok, Err}
 use Rattle.std.specs.List.{AllByRecursion}
 use Rattle.std.proofs.lemmas.List.{drop_at, take_at}
 use Rattle.telegram.specs.declared.address.Address.{Address}
@@ -9,6 +9,7 @@ use Rattle.line.specs.Exchanges.{State}
 use Rattle.search.specs.declared.entry.Entry.{Entry}
 use Rattle.master.specs.declared.fault.FetchFault.{FetchFault}
 use Rattle.master.specs.Picks.{telegram}
+use Rattle.master.specs.Faults.{is_full, summary_of}
 use Rattle.round.specs.declared.call.Call.{Call}
 use Rattle.round.specs.declared.call.Call.TheVariants as call
 use Rattle.round.specs.declared.call.Found.{Found}
@@ -106,18 +107,18 @@ module _ (house : House) (room : ℕ) where
     found : List Entry
     adds : es₁ ≡ es ++ found
     from : f.from ≡ length es
-    count : f.summary.entries ≡ length found
-    lists : Lists house (room - length es) found f.summary.selections f.full
+    count : (summary_of f.result).entries ≡ length found
+    lists : Lists house (room - length es) found (summary_of f.result).selections (is_full f.result)
 
   search_step : {s s₁ : State} {es es₁ : List Entry} {m m₁ : Mode} {f : Found} → Step house room s es m call.Search (outcome.Found f) m₁ s₁ es₁ → SearchStep f es es₁
   search_step (Step.searched {es = fs} from n sent lists clear) = record { found = fs; adds = refl; from = from; count = n; lists = lists }
 
-  part_of : (f : Found) (es found rest all : List Entry) → f.from ≡ length es → f.summary.entries ≡ length found → all ≡ (es ++ found) ++ rest → entries_of f all ≡ found
+  part_of : (f : Found) (es found rest all : List Entry) → f.from ≡ length es → (summary_of f.result).entries ≡ length found → all ≡ (es ++ found) ++ rest → entries_of f all ≡ found
   part_of f es found rest all from n is =
       let whole : all ≡ es ++ (found ++ rest) = is ∙ append_assoc es found rest in
-      ap (λ l. take f.summary.entries (drop f.from l)) whole
-      ∙ ap (take f.summary.entries) (drop_at es (found ++ rest) f.from (sym from))
-      ∙ take_at found rest f.summary.entries (sym n)
+      ap (λ l. take (summary_of f.result).entries (drop f.from l)) whole
+      ∙ ap (take (summary_of f.result).entries) (drop_at es (found ++ rest) f.from (sym from))
+      ∙ take_at found rest (summary_of f.result).entries (sym n)
 
   pub searches_list : (m m₂ : Mode) (s s₂ : State) (es₂ : List Entry) (calls : List Call) (outcomes : List Outcome) → Trace house room m s [] calls outcomes m₂ s₂ es₂ → SearchesList house room calls outcomes es₂
   searches_list m m₂ s s₂ es₂ calls outcomes t xs ys os ps f ce oe l =
@@ -127,8 +128,8 @@ module _ (house : House) (room : ℕ) where
       let x = search_step a.step in
       let rest = trace_adds a.after in
       let part = part_of f a.entries x.found rest.0 es₂ x.from x.count (rest.1 ∙ ap (λ e. e ++ rest.0) x.adds) in
-      let lists = subst (λ n. Lists house (room - n) x.found f.summary.selections f.full) (sym x.from) x.lists in
-      subst (λ e. Lists house (room - f.from) e f.summary.selections f.full) (sym part) lists
+      let lists = subst (λ n. Lists house (room - n) x.found (summary_of f.result).selections (is_full f.result)) (sym x.from) x.lists in
+      subst (λ e. Lists house (room - f.from) e (summary_of f.result).selections (is_full f.result)) (sym part) lists
 
 module _ (house : House) where
   -- a pick that is no misuse
@@ -181,15 +182,15 @@ module _ (house : House) where
         step = subst (λ v. Step house then.room then.state then.entries v call.Fetch o then.mode₁ then.state₁ then.entries₁) (is ∙ ap (Mode.picked (address_bytes a) p.answered) k) then.step;
       }
 
-  fetched_holds : {room : ℕ} {s s₁ : State} {es es₁ : List Entry} {address : List ℕ} {b : Bool} {k : ℕ} {m₁ : Mode} {t : Telegram} → Step house room s es (Mode.picked address b k) call.Fetch (outcome.Fetched t) m₁ s₁ es₁ → (m : Meter) → Alone house address m → HoldsTelegram t (telegram m k)
+  fetched_holds : {room : ℕ} {s s₁ : State} {es es₁ : List Entry} {address : List ℕ} {b : Bool} {k : ℕ} {m₁ : Mode} {t : Telegram} → Step house room s es (Mode.picked address b k) call.Fetch (outcome.Fetched (Ok t)) m₁ s₁ es₁ → (m : Meter) → Alone house address m → HoldsTelegram t (telegram m k)
   fetched_holds (Step.fetched sent holds) = holds
 
-  refused_never : {room : ℕ} {s s₁ : State} {es es₁ : List Entry} {address : List ℕ} {b : Bool} {k : ℕ} {m₁ : Mode} {f : FetchFault} → Step house room s es (Mode.picked address b k) call.Fetch (outcome.Refused f) m₁ s₁ es₁ → (m : Meter) → Alone house address m → house.run ≡ 0 → ⊥
+  refused_never : {room : ℕ} {s s₁ : State} {es es₁ : List Entry} {address : List ℕ} {b : Bool} {k : ℕ} {m₁ : Mode} {f : FetchFault} → Step house room s es (Mode.picked address b k) call.Fetch (outcome.Fetched (Err f)) m₁ s₁ es₁ → (m : Meter) → Alone house address m → house.run ≡ 0 → ⊥
   refused_never (Step.refused sent never) = never
 
   pub fetch_laws : (m m₂ : Mode) (s s₂ : State) (calls : List Call) (outcomes : List Outcome) → Path house m s calls outcomes m₂ s₂ → FetchLaws house calls outcomes
   fetch_laws m m₂ s s₂ calls outcomes t =
       record {
-        in_turn = λ a between telegram p. fetched_holds (fetch_step m m₂ s s₂ calls outcomes t a between (outcome.Fetched telegram) p).step;
-        succeed = λ a between f p. refused_never (fetch_step m m₂ s s₂ calls outcomes t a between (outcome.Refused f) p).step;
+        in_turn = λ a between telegram p. fetched_holds (fetch_step m m₂ s s₂ calls outcomes t a between (outcome.Fetched (Ok telegram)) p).step;
+        succeed = λ a between f p. refused_never (fetch_step m m₂ s s₂ calls outcomes t a between (outcome.Fetched (Err f)) p).step;
       }

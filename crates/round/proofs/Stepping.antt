@@ -1,5 +1,5 @@
 -- From what each call of a master ensures to the step between its modes.
-use Rattle.std.proofs.Common.{◌≡◌, ℕ, suc, ◌-◌, Bool, true, not, List, [], ◌∷◌, ◌++◌, map, length, take, Some, Ok, Err, Result, sym, refl, ap, ◌∙◌, subst, ap₂}
+use Rattle.std.proofs.Common.{◌≡◌, ℕ, suc, ◌-◌, ◌≤◌, Bool, true, not, List, [], ◌∷◌, ◌++◌, map, length, take, Some, Ok, Err, Result, sym, refl, ap, ◌∙◌, subst, ap₂, arith, replicate, length-append}
 use Rattle.link.specs.Buffers.{filled}
 use Rattle.link.proofs.Filling.{take_filled}
 use Rattle.telegram.specs.declared.address.Address.{Address}
@@ -19,6 +19,7 @@ use Rattle.master.specs.Picks.{Continues, Fetches, Linked, Releases, Selects, St
 use Rattle.master.specs.Requests.{fetch, pattern_of}
 use Rattle.master.specs.Searches.{Searched}
 use Rattle.master.proofs.Keeping.{Keeps, exchange_keeps, keeps_self}
+use Rattle.master.specs.Faults.{is_full, summary_of}
 use Rattle.round.specs.declared.call.Call.{Call}
 use Rattle.round.specs.declared.call.Call.TheVariants as call
 use Rattle.round.specs.declared.call.Found.{Found}
@@ -66,6 +67,11 @@ left_by (Fetches.accepted reply x good) = record { bits = refl; buffers = refl; 
 left_by (Fetches.silent is x) = record { bits = refl; buffers = refl; answers = tt }
 left_by (Fetches.garbled is reply x some bad) = record { bits = refl; buffers = refl; answers = tt }
 
+-- what was fetched lies within the buffer
+pub fetched_within : {s : State} {answered bit : Bool} {buffer : List ℕ} {n : ℕ} {s' : State} {bit' : Bool} → Fetches s answered bit (Ok n) buffer s' bit' → n ≤ length buffer
+unfolding filled
+fetched_within (Fetches.accepted reply x good) = omega (arith, length-append reply (replicate (261 - length reply) 0))
+
 -- a buffer that is filled with a telegram
 carried : (t : Telegram) (bytes : List ℕ) → t.buffer ≡ filled bytes → t.count ≡ length bytes → HoldsTelegram t bytes
 carried t bytes a n =
@@ -73,13 +79,13 @@ carried t bytes a n =
     record { buffer = a; count = n; own = own; items = λ vs e h. subst (λ bs. Reads (up_to_end bs) 19 vs e) own h }
 
 module _ {L : Type 0} (means : L → State) (room : ℕ) where
-  pub search_goes : (i j : Idle L) (f : Found) (before es all : List Entry) (places : ℕ) → places ≡ room - length before → f.from ≡ length before → f.summary.entries ≡ length es → all ≡ before ++ es → Searched 8 (means i.line) places (map entry_of es) f.summary.selections f.full (means j.line) → Finds 8 (means i.line).bus.meters (means i.line).run places (map entry_of es) f.summary.selections f.full → Clears (means i.line) (means j.line) → Goes means room (master.Idle i) call.Search (outcome.Found f) (master.Idle j) before all
+  pub search_goes : (i j : Idle L) (f : Found) (before es all : List Entry) (places : ℕ) → places ≡ room - length before → f.from ≡ length before → (summary_of f.result).entries ≡ length es → all ≡ before ++ es → Searched 8 (means i.line) places (map entry_of es) (summary_of f.result).selections (is_full f.result) (means j.line) → Finds 8 (means i.line).bus.meters (means i.line).run places (map entry_of es) (summary_of f.result).selections (is_full f.result) → Clears (means i.line) (means j.line) → Goes means room (master.Idle i) call.Search (outcome.Found f) (master.Idle j) before all
   search_goes i j f before es all places few from entries is sent finds clear Mode.idle h =
       let s : State = means i.line in
       let t : State = means j.line in
-      let sent' = subst (λ n. Searched 8 s n (map entry_of es) f.summary.selections f.full t) few sent in
-      let finds' = subst (λ n. Finds 8 s.bus.meters s.run n (map entry_of es) f.summary.selections f.full) few finds in
-      let lists : Lists (house_of s) (room - length before) es f.summary.selections f.full = record { truly = finds'.truly; enough = finds'.enough; wholly = λ z roomy. finds'.wholly z (finds'.enough roomy) } in
+      let sent' = subst (λ n. Searched 8 s n (map entry_of es) (summary_of f.result).selections (is_full f.result) t) few sent in
+      let finds' = subst (λ n. Finds 8 s.bus.meters s.run n (map entry_of es) (summary_of f.result).selections (is_full f.result)) few finds in
+      let lists : Lists (house_of s) (room - length before) es (summary_of f.result).selections (is_full f.result) = record { truly = finds'.truly; enough = finds'.enough; wholly = λ z roomy. finds'.wholly z (finds'.enough roomy) } in
       (Mode.idle, subst (Step (house_of s) room s before Mode.idle call.Search (outcome.Found f) Mode.idle t) (sym is) (Step.searched from entries sent' lists clear), tt)
   search_goes i j f before es all places few from entries is sent finds clear (Mode.picked a answered k) h = absurd h
 
@@ -129,15 +135,15 @@ module _ {L : Type 0} (means : L → State) (room : ℕ) where
           let x₂ = subst (λ v. Fetches s p.answered (flipped k) r buffer t v) c x₁ in
           subst (λ v. Fetches s v (flipped k) r buffer t bit') a x₂
 
-      pub accepted_goes : (n : ℕ) → Fetched (Ok n) → Continued (Ok n) → Goes means room (master.Picked p) call.Fetch (outcome.Fetched (record { buffer = buffer; count = n })) (master.Picked q) es es
-      accepted_goes n x next Mode.idle h = absurd h
-      accepted_goes n x next (Mode.picked a answered k) h =
+      pub accepted_goes : (n : ℕ) (w : n ≤ length buffer) → Fetched (Ok n) → Continued (Ok n) → Goes means room (master.Picked p) call.Fetch (outcome.Fetched (Ok (record { buffer = buffer; count = n; within = w }))) (master.Picked q) es es
+      accepted_goes n w x next Mode.idle h = absurd h
+      accepted_goes n w x next (Mode.picked a answered k) h =
           let kept : Keeps (means p.line) (means q.line) = fetches_keep x in
           let left = left_by x in
           let bit : q.bit ≡ flipped (suc k) = left.bits ∙ ap not h.1 in
           let yes : p.answered ≡ true = left.answers in (
             Mode.picked a answered (suc k),
-            Step.fetched (told (Ok n) answered k (flipped (suc k)) h.0 h.1 bit x) (λ m one. let got = (next a m k ((h.2 m one).linked yes)).accepted n refl in carried (record { buffer = buffer; count = n }) (telegram m k) got.0 got.1),
+            Step.fetched (told (Ok n) answered k (flipped (suc k)) h.0 h.1 bit x) (λ m one. let got = (next a m k ((h.2 m one).linked yes)).accepted n refl in carried (record { buffer = buffer; count = n; within = w }) (telegram m k) got.0 got.1),
             (
               same ∙ h.0,
               bit,
@@ -151,7 +157,7 @@ module _ {L : Type 0} (means : L → State) (room : ℕ) where
             ),
           )
 
-      pub refused_goes : (f : FetchFault) → Fetched (Err f) → Continued (Err f) → Goes means room (master.Picked p) call.Fetch (outcome.Refused f) (master.Picked q) es es
+      pub refused_goes : (f : FetchFault) → Fetched (Err f) → Continued (Err f) → Goes means room (master.Picked p) call.Fetch (outcome.Fetched (Err f)) (master.Picked q) es es
       refused_goes f x next Mode.idle h = absurd h
       refused_goes f x next (Mode.picked a answered k) h =
           let s : State = means p.line in

@@ -1,5 +1,5 @@
 -- What holds of every run of calls, told from the calls and their outcomes alone.
-use Rattle.std.specs.Prelude.{◌≡◌, ℕ, ◌+◌, ◌-◌, Bool, List, [], ◌∷◌, ◌++◌, length, take, drop, ◌≢◌}
+use Rattle.std.specs.Prelude.{◌≡◌, ℕ, ◌+◌, ◌-◌, Bool, List, [], ◌∷◌, ◌++◌, length, take, drop, ◌≢◌, Ok, Err}
 use Rattle.std.specs.List.{AllByRecursion}
 use Rattle.telegram.specs.declared.address.Address.{Address}
 use Rattle.telegram.specs.Addresses.{address_bytes}
@@ -7,6 +7,7 @@ use Rattle.line.specs.Meters.{Meter}
 use Rattle.search.specs.declared.entry.Entry.{Entry}
 use Rattle.master.specs.declared.fault.FetchFault.{FetchFault}
 use Rattle.master.specs.Picks.{telegram}
+use Rattle.master.specs.Faults.{is_full, summary_of}
 use Rattle.round.specs.declared.call.Call.{Call}
 use Rattle.round.specs.declared.call.Call.TheVariants as call
 use Rattle.round.specs.declared.call.Found.{Found}
@@ -18,21 +19,21 @@ use Rattle.round.specs.Steps.{HoldsTelegram, Lists}
 
 -- the entries of a search, among those of all searches
 abbrev pub entries_of : Found → List Entry → List Entry
-entries_of f es = take f.summary.entries (drop f.from es)
+entries_of f es = take (summary_of f.result).entries (drop f.from es)
 
 -- every search of a run, wherever it stands: its list is true, and whole where the line has no faults and there is a place for
 -- each number present
 abbrev pub SearchesList : House → ℕ → List Call → List Outcome → List Entry → Type 0
 SearchesList house room calls outcomes es =
-    (xs ys : List Call) (os ps : List Outcome) (f : Found) → calls ≡ xs ++ call.Search ∷ ys → outcomes ≡ os ++ outcome.Found f ∷ ps → length xs ≡ length os → Lists house (room - f.from) (entries_of f es) f.summary.selections f.full
+    (xs ys : List Call) (os ps : List Outcome) (f : Found) → calls ≡ xs ++ call.Search ∷ ys → outcomes ≡ os ++ outcome.Found f ∷ ps → length xs ≡ length os → Lists house (room - f.from) (entries_of f es) (summary_of f.result).selections (is_full f.result)
 
 -- how many fetches were accepted
 abbrev pub accepted : List Outcome → ℕ
 accepted [] = 0
 accepted (outcome.Found f ∷ os) = accepted os
 accepted (outcome.Picked b ∷ os) = accepted os
-accepted (outcome.Fetched t ∷ os) = 1 + accepted os
-accepted (outcome.Refused f ∷ os) = accepted os
+accepted (outcome.Fetched (Ok t) ∷ os) = 1 + accepted os
+accepted (outcome.Fetched (Err f) ∷ os) = accepted os
 accepted (outcome.Released ∷ os) = accepted os
 accepted (outcome.Misuse ∷ os) = accepted os
 
@@ -60,12 +61,12 @@ pub record PickedThen (calls : List Call) (outcomes : List Outcome) (a : Address
 -- (k modulo t) + 1 of that meter's t, whatever the line loses or damages
 abbrev pub FetchesInTurn : House → List Call → List Outcome → Type 0
 FetchesInTurn house calls outcomes =
-    (a : Address) (between : List Outcome) (t : Telegram) → PickedThen calls outcomes a between (outcome.Fetched t) → (m : Meter) → Alone house (address_bytes a) m → HoldsTelegram t (telegram m (accepted between))
+    (a : Address) (between : List Outcome) (t : Telegram) → PickedThen calls outcomes a between (outcome.Fetched (Ok t)) → (m : Meter) → Alone house (address_bytes a) m → HoldsTelegram t (telegram m (accepted between))
 
 -- and where the line has no faults, no such fetch is refused
 abbrev pub FetchesSucceed : House → List Call → List Outcome → Type 0
 FetchesSucceed house calls outcomes =
-    (a : Address) (between : List Outcome) (f : FetchFault) → PickedThen calls outcomes a between (outcome.Refused f) → (m : Meter) → Alone house (address_bytes a) m → house.run ≢ 0
+    (a : Address) (between : List Outcome) (f : FetchFault) → PickedThen calls outcomes a between (outcome.Fetched (Err f)) → (m : Meter) → Alone house (address_bytes a) m → house.run ≢ 0
 
 pub record FetchLaws (house : House) (calls : List Call) (outcomes : List Outcome) : Type 0 where
   pub in_turn : FetchesInTurn house calls outcomes

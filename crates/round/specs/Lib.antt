@@ -1,4 +1,5 @@
 pub mod Modes
+pub mod Places
 pub mod Steps
 pub mod Laws
 pub mod Promise

@@ -17,6 +17,7 @@ use Rattle.master.specs.declared.fault.FetchFault.{FetchFault}
 use Rattle.master.specs.Laws.{Enough, addresses}
 use Rattle.master.specs.Picks.{Fetches, Releases, Selects, flipped, telegram}
 use Rattle.master.specs.Searches.{Searched}
+use Rattle.master.specs.Faults.{is_full, summary_of}
 use Rattle.round.specs.declared.call.Call.{Call}
 use Rattle.round.specs.declared.call.Call.TheVariants as call
 use Rattle.round.specs.declared.call.Found.{Found}
@@ -70,10 +71,10 @@ Lacks (Mode.picked address answered k) call.Release = ⊥
 --     released  one release
 --     misused   nothing
 pub data Step (house : House) (room : ℕ) (s : State) (before : List Entry) : Mode → Call → Outcome → Mode → State → List Entry → Type 0 where
-  searched : {f : Found} {es : List Entry} {s' : State} → f.from ≡ length before → f.summary.entries ≡ length es → Searched 8 s (room - length before) (map entry_of es) f.summary.selections f.full s' → Lists house (room - length before) es f.summary.selections f.full → Unselects house s' → Step house room s before Mode.idle call.Search (outcome.Found f) Mode.idle s' (before ++ es)
+  searched : {f : Found} {es : List Entry} {s' : State} → f.from ≡ length before → (summary_of f.result).entries ≡ length es → Searched 8 s (room - length before) (map entry_of es) (summary_of f.result).selections (is_full f.result) s' → Lists house (room - length before) es (summary_of f.result).selections (is_full f.result) → Unselects house s' → Step house room s before Mode.idle call.Search (outcome.Found f) Mode.idle s' (before ++ es)
   picked : {a : Address} {answered : Bool} {s' : State} → Selects s (address_bytes a) answered true s' → ((m : Meter) → Alone house (address_bytes a) m → house.run ≡ 0 → answered ≡ true) → Step house room s before Mode.idle (call.Pick a) (outcome.Picked answered) (Mode.picked (address_bytes a) answered 0) s' before
-  fetched : {address : List ℕ} {answered : Bool} {k : ℕ} {t : Telegram} {s' : State} → Fetches s answered (flipped k) (Ok t.count) t.buffer s' (flipped (suc k)) → ((m : Meter) → Alone house address m → HoldsTelegram t (telegram m k)) → Step house room s before (Mode.picked address answered k) call.Fetch (outcome.Fetched t) (Mode.picked address answered (suc k)) s' before
-  refused : {address : List ℕ} {answered : Bool} {k : ℕ} {f : FetchFault} {s' : State} → Fetches s answered (flipped k) (Err f) (filled []) s' (flipped k) → ((m : Meter) → Alone house address m → house.run ≢ 0) → Step house room s before (Mode.picked address answered k) call.Fetch (outcome.Refused f) (Mode.picked address answered k) s' before
+  fetched : {address : List ℕ} {answered : Bool} {k : ℕ} {t : Telegram} {s' : State} → Fetches s answered (flipped k) (Ok t.count) t.buffer s' (flipped (suc k)) → ((m : Meter) → Alone house address m → HoldsTelegram t (telegram m k)) → Step house room s before (Mode.picked address answered k) call.Fetch (outcome.Fetched (Ok t)) (Mode.picked address answered (suc k)) s' before
+  refused : {address : List ℕ} {answered : Bool} {k : ℕ} {f : FetchFault} {s' : State} → Fetches s answered (flipped k) (Err f) (filled []) s' (flipped k) → ((m : Meter) → Alone house address m → house.run ≢ 0) → Step house room s before (Mode.picked address answered k) call.Fetch (outcome.Fetched (Err f)) (Mode.picked address answered k) s' before
   released : {mode : Mode} {s' : State} → Releases s s' → Unselects house s' → Step house room s before mode call.Release outcome.Released Mode.idle s' before
   misused : {mode : Mode} {c : Call} → Lacks mode c → Step house room s before mode c outcome.Misuse mode s before
 

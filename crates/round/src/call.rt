@@ -1,6 +1,8 @@
 // The calls on a master, and what each gives.
+ghost use Rattle.std.specs.Prelude.{◌≡◌, ◌≤◌, length, take};
+
 use link::buffer::Buffer;
-use master::fault::{FetchFault, Summary};
+use master::fault::{FetchFault, SearchFault, Summary};
 use telegram::address::Address;
 
 #[derive(Clone, Copy)]
@@ -11,20 +13,27 @@ pub enum Call {
     Release,
 }
 
-// A telegram buffer, and the count of the telegram's bytes.
+// A telegram as it was fetched: the first `count` bytes of its buffer. No heap: it has the memory of the longest one.
 #[derive(Clone, Copy)]
 pub struct Telegram {
-    pub buffer: Buffer,
-    pub count: usize,
+    pub(crate) buffer: Buffer,
+    pub(crate) count: usize,
+    ghost within: { count ≤ length buffer },
+}
+
+impl Telegram {
+    pub fn bytes(&self) -> &[u8]
+        ensures { result.now ≡ take self.now.count self.now.buffer }
+    {
+        &self.buffer[..self.count]
+    }
 }
 
 // What a search reports. Its entries stand from the place `from` on.
 #[derive(Clone, Copy)]
 pub struct Found {
     pub from: usize,
-    pub summary: Summary,
-    // an entry found no place
-    pub full: bool,
+    pub result: Result<Summary, SearchFault>,
 }
 
 #[derive(Clone, Copy)]
@@ -32,8 +41,7 @@ pub enum Outcome {
     Found(Found),
     // whether any reply came
     Picked(bool),
-    Fetched(Telegram),
-    Refused(FetchFault),
+    Fetched(Result<Telegram, FetchFault>),
     Released,
     // a call that the master's state lacks: nothing is sent
     Misuse,

@@ -3,5 +3,6 @@
 
 pub mod any_master;
 pub mod call;
+mod places;
 mod runs;
 mod steps;

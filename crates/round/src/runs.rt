@@ -2,10 +2,12 @@
 ghost use Rattle.std.specs.Prelude.{◌≡◌, ◌<◌, ◌≤◌, min, length, take, drop};
 ghost use Rattle.round.specs.Laws.{SearchesList};
 ghost use Rattle.round.specs.Modes.{Holds, Mode, SameHouse, house_of, line_of};
+ghost use Rattle.round.specs.Places.{Fills, listed, room};
 ghost use Rattle.round.specs.Promise.{Goes, GoesOn, Promise, Runs};
 
 use crate::any_master::{Master, Progress};
 use crate::call::{Call, Outcome};
+use crate::places::Places;
 use crate::steps::{fetch, pick, release_idle, release_picked, search};
 use line::line::Line;
 use master::master::Idle;
@@ -31,45 +33,47 @@ impl<L: Line> Master<L> {
     }
 
     // One call, in the state that the master is in. A call that this state lacks sends nothing and changes nothing.
-    // Entries go into the places after those used; answers how many are used then.
-    fn step(self, call: Call, places: &mut [Entry], used: usize) -> (Master<L>, Outcome, usize)
-        requires { used ≤ length places.old }
-        ensures goes { Goes L.means (length places.old) self call result.1 result.0 (take used places.old) (take result.2 places.new) }
-        ensures within { (used ≤ result.2) × (result.2 ≤ length places.old) }
-        ensures untouched { drop result.2 places.new ≡ drop result.2 places.old }
+    fn step(self, call: Call, places: &mut Places) -> (Master<L>, Outcome)
+        ensures goes { Goes L.means (room places.old) self call result.1 result.0 (listed places.old) (listed places.new) }
+        ensures fills { Fills places.old places.new }
         ensures house { SameHouse L.means self result.0 }
         ensures layers { L.tries (line_of result.0) ≡ L.tries (line_of self) }
     {
         match (self, call) {
-            (Master::Idle(idle), Call::Search) => search(idle, places, used),
-            (Master::Idle(idle), Call::Pick(address)) => {
-                let (after, outcome) = pick(idle, address);
-                (after, outcome, used)
-            }
-            (Master::Idle(idle), Call::Fetch) => (Master::Idle(idle), Outcome::Misuse, used),
-            (Master::Idle(idle), Call::Release) => {
-                let (after, outcome) = release_idle(idle);
-                (after, outcome, used)
-            }
-            (Master::Picked(picked), Call::Fetch) => {
-                let (after, outcome) = fetch(picked);
-                (after, outcome, used)
-            }
-            (Master::Picked(picked), Call::Release) => {
-                let (after, outcome) = release_picked(picked);
-                (after, outcome, used)
-            }
-            (Master::Picked(picked), Call::Search) => (
-                Master::Picked(picked),
-                Outcome::Misuse,
-                used,
-            ),
-            (Master::Picked(picked), Call::Pick(_)) => (
-                Master::Picked(picked),
-                Outcome::Misuse,
-                used,
-            ),
+            (Master::Idle(idle), Call::Search) => search(idle, places),
+            (Master::Idle(idle), Call::Pick(address)) => pick(idle, address),
+            (Master::Idle(idle), Call::Release) => release_idle(idle),
+            (Master::Picked(picked), Call::Fetch) => fetch(picked),
+            (Master::Picked(picked), Call::Release) => release_picked(picked),
+            (Master::Idle(idle), Call::Fetch) => (Master::Idle(idle), Outcome::Misuse),
+            (Master::Picked(picked), Call::Search) => (Master::Picked(picked), Outcome::Misuse),
+            (Master::Picked(picked), Call::Pick(_)) => (Master::Picked(picked), Outcome::Misuse),
         }
+    }
+
+    // The calls one by one, as many as there are places for outcomes, and how many these are.
+    fn obey(
+        self,
+        calls: &[Call],
+        outcomes: &mut [Outcome],
+        places: &mut Places,
+    ) -> (Master<L>, usize)
+        requires { places.old.used ≡ 0 }
+        ensures count { result.1 ≡ min (length calls.now) (length outcomes.old) }
+        ensures runs { Runs L.means (room places.old) self (take result.1 calls.now) (take result.1 outcomes.new) result.0 (listed places.new) }
+        ensures other_outcomes { drop result.1 outcomes.new ≡ drop result.1 outcomes.old }
+        ensures fills { Fills places.old places.new }
+        ensures house { SameHouse L.means self result.0 }
+        ensures layers { L.tries (line_of result.0) ≡ L.tries (line_of self) }
+    {
+        let count = calls.len().min(outcomes.len());
+        let mut master = self;
+        for i in 0..count {
+            let (after, outcome) = master.step(calls[i], places);
+            master = after;
+            outcomes[i] = outcome;
+        }
+        (master, count)
     }
 
     // The calls one by one, as many as there are places for outcomes. The entries of their searches go into the places for
@@ -91,18 +95,14 @@ impl<L: Line> Master<L> {
         ensures layers { L.tries (line_of result.0) ≡ L.tries (line_of self) }
         ensures faultless { (L.base (line_of self)).run < L.tries (line_of self) → (L.means (line_of self)).run ≡ 0 }
     {
-        let count = calls.len().min(outcomes.len());
-        let mut master = self;
-        let mut used = 0;
-        for i in 0..count {
-            let (after, outcome, listed) = master.step(calls[i], entries, used);
-            master = after;
-            used = listed;
-            outcomes[i] = outcome;
-        }
+        let mut places = Places {
+            all: entries,
+            used: 0,
+        };
+        let (master, count) = self.obey(calls, outcomes, &mut places);
         let progress = Progress {
             calls: count,
-            entries: used,
+            entries: places.used,
         };
         (master, progress)
     }

@@ -6,10 +6,12 @@ ghost use Rattle.master.specs.Faults.{is_full, summary_of};
 ghost use Rattle.master.specs.Laws.{Clears, Finds};
 ghost use Rattle.master.specs.Searches.{Searched};
 ghost use Rattle.round.specs.Modes.{SameHouse, line_of};
+ghost use Rattle.round.specs.Places.{Fills, listed, room};
 ghost use Rattle.round.specs.Promise.{Goes};
 
 use crate::any_master::Master;
 use crate::call::{Call, Found, Outcome, Telegram};
+use crate::places::Places;
 use line::line::Line;
 use link::buffer::new_buffer;
 use list::fixed_list::FixedList;
@@ -37,9 +39,9 @@ pub(crate) fn fetch<L: Line>(mut picked: Picked<L>) -> (Master<L>, Outcome)
     match picked.fetch(&mut buffer) {
         Ok(count) => (
             Master::Picked(picked),
-            Outcome::Fetched(Telegram { buffer, count }),
+            Outcome::Fetched(Ok(Telegram { buffer, count })),
         ),
-        Err(fault) => (Master::Picked(picked), Outcome::Refused(fault)),
+        Err(fault) => (Master::Picked(picked), Outcome::Fetched(Err(fault))),
     }
 }
 
@@ -60,53 +62,36 @@ pub(crate) fn release_picked<L: Line>(picked: Picked<L>) -> (Master<L>, Outcome)
     (Master::Idle(picked.release()), Outcome::Released)
 }
 
-// What a search reports, and whether an entry found no place.
-fn told(res: Result<Summary, SearchFault>) -> (Summary, bool)
-    ensures summary { result.0 ≡ summary_of res }
-    ensures full { result.1 ≡ is_full res }
-{
-    match res {
-        Ok(summary) => (summary, false),
-        Err(fault) => (fault.summary, true),
-    }
-}
-
 // A search with all these places.
-fn search_into<L: Line>(idle: &mut Idle<L>, places: &mut [Entry]) -> (Summary, bool)
-    ensures searched { Searched 8 (L.means idle.old.line) (length places.old) (map entry_of (take result.0.entries places.new)) result.0.selections result.1 (L.means idle.new.line) }
-    ensures finds { Finds 8 (L.means idle.old.line).bus.meters (L.means idle.old.line).run (length places.old) (map entry_of (take result.0.entries places.new)) result.0.selections result.1 }
+fn search_into<L: Line>(idle: &mut Idle<L>, places: &mut [Entry]) -> Result<Summary, SearchFault>
+    ensures searched { Searched 8 (L.means idle.old.line) (length places.old) (map entry_of (take (summary_of result).entries places.new)) (summary_of result).selections (is_full result) (L.means idle.new.line) }
+    ensures finds { Finds 8 (L.means idle.old.line).bus.meters (L.means idle.old.line).run (length places.old) (map entry_of (take (summary_of result).entries places.new)) (summary_of result).selections (is_full result) }
     ensures clear { Clears (L.means idle.old.line) (L.means idle.new.line) }
-    ensures within { result.0.entries ≤ length places.old }
-    ensures untouched { drop result.0.entries places.new ≡ drop result.0.entries places.old }
+    ensures within { (summary_of result).entries ≤ length places.old }
+    ensures untouched { drop (summary_of result).entries places.new ≡ drop (summary_of result).entries places.old }
     ensures layers { L.tries idle.new.line ≡ L.tries idle.old.line }
 {
     let mut list = FixedList::new(places);
-    told(idle.search(&mut list))
+    idle.search(&mut list)
+}
+
+// What a search reports, a full list's too.
+fn reported(found: Result<Summary, SearchFault>) -> Summary
+    ensures { result ≡ summary_of found }
+{
+    found.unwrap_or_else(|fault| fault.summary)
 }
 
 // A search with the places after those used.
-pub(crate) fn search<L: Line>(
-    mut idle: Idle<L>,
-    places: &mut [Entry],
-    used: usize,
-) -> (Master<L>, Outcome, usize)
-    requires { used ≤ length places.old }
-    ensures goes { Goes L.means (length places.old) (Master.Idle idle) Call.Search result.1 result.0 (take used places.old) (take result.2 places.new) }
-    ensures within { (used ≤ result.2) × (result.2 ≤ length places.old) }
-    ensures untouched { drop result.2 places.new ≡ drop result.2 places.old }
+pub(crate) fn search<L: Line>(mut idle: Idle<L>, places: &mut Places) -> (Master<L>, Outcome)
+    ensures goes { Goes L.means (room places.old) (Master.Idle idle) Call.Search result.1 result.0 (listed places.old) (listed places.new) }
+    ensures fills { Fills places.old places.new }
     ensures house { SameHouse L.means (Master.Idle idle) result.0 }
     ensures layers { L.tries (line_of result.0) ≡ L.tries idle.line }
 {
-    let end = places.len();
-    let (summary, full) = search_into(&mut idle, &mut places[used..end]);
-    let found = Found {
-        from: used,
-        summary,
-        full,
-    };
-    (
-        Master::Idle(idle),
-        Outcome::Found(found),
-        used + summary.entries,
-    )
+    let from = places.used;
+    let result = search_into(&mut idle, &mut places.all[from..]);
+    places.used = from + reported(result).entries;
+    let found = Found { from, result };
+    (Master::Idle(idle), Outcome::Found(found))
 }

@@ -1,28 +1,29 @@
 -- The next beginning, told from the last digit.
-use Rattle.std.proofs.Common.{◌≡◌, ℕ, ◌+◌, ◌-◌, ◌<◌, ◌≤◌, cond, ltb, List, [], ◌∷◌, ◌++◌, length, get_or, take, set, sym, ap, ◌∙◌, subst, arith, take_all}
-use Rattle.std.proofs.lemmas.List.{take_more, take_more_set}
+use Rattle.std.proofs.Common.{◌≡◌, ℕ, ◌+◌, ◌<◌, ◌≤◌, cond, ltb, List, [], ◌∷◌, ◌++◌, length, take, set, sym, refl, ap, ◌∙◌, arith, take_all}
+use Rattle.std.proofs.lemmas.List.{length-append, take-take, take_at, take_more_set}
 use mathlib.Core.Option.{some}
 use Rattle.std.proofs.lemmas.Bool.{cond-false, le-ltb}
 use Rattle.search.specs.Next.{raised}
 use Rattle.search.specs.Verdicts.{Entry, shared}
 use Rattle.search.proofs.Next.{raised_nine, raised_digit}
 
--- the first n digits end in the one at n - 1
-pub last_of : (ds : List ℕ) (n : ℕ) → 0 < n → n ≤ length ds → take n ds ≡ take (n - 1) ds ++ get_or ds (n - 1) 0 ∷ []
-last_of ds n pos h = let back : n - 1 + 1 ≡ n = omega arith in subst (λ k. take k ds ≡ take (n - 1) ds ++ get_or ds (n - 1) 0 ∷ []) back (take_more ds (n - 1) 0 (omega arith))
+-- a 9 at the end is dropped
+pub nine_dropped : (kept front : List ℕ) (d : ℕ) → kept ≡ front ++ d ∷ [] → 9 ≤ d → raised front ≡ raised kept
+nine_dropped kept front d h nine = sym (ap raised h ∙ raised_nine front d nine)
 
--- one place back over a 9
-pub back_nine : (ds : List ℕ) (n : ℕ) → 0 < n → n ≤ length ds → get_or ds (n - 1) 0 ≡ 9 → raised (take (n - 1) ds) ≡ raised (take n ds)
-back_nine ds n pos h e = sym (raised_nine (take (n - 1) ds) 9 (omega arith)) ∙ sym (ap raised (last_of ds n pos h ∙ ap (λ d. take (n - 1) ds ++ d ∷ []) e))
+-- what stands before the last of the first digits are first digits too
+pub front_of : (ds kept front : List ℕ) (d : ℕ) → kept ≡ front ++ d ∷ [] → kept ≡ take (length kept) ds → front ≡ take (length front) ds
+front_of ds kept front d h k =
+    let n : length front ≤ length kept = omega (arith, ap length h, length-append front (d ∷ [])) in
+    sym (take_at front (d ∷ []) (length front) refl) ∙ ap (take (length front)) (sym h ∙ k) ∙ take-take (length front) (length kept) ds n
 
--- any other digit is raised in place
-pub raise_at : (ds : List ℕ) (n : ℕ) → 0 < n → n ≤ length ds → get_or ds (n - 1) 0 < 9 → some (take n (set ds (n - 1) (get_or ds (n - 1) 0 + 1))) ≡ raised (take n ds)
-raise_at ds n pos h low =
-    let d = get_or ds (n - 1) 0 in
-    let back : n - 1 + 1 ≡ n = omega arith in
-    let there : take n (set ds (n - 1) (d + 1)) ≡ take (n - 1) ds ++ (d + 1) ∷ [] =
-    subst (λ k. take k (set ds (n - 1) (d + 1)) ≡ take (n - 1) ds ++ (d + 1) ∷ []) back (take_more_set ds (n - 1) (d + 1) (omega arith)) in
-    ap some there ∙ sym (ap raised (last_of ds n pos h) ∙ raised_digit (take (n - 1) ds) d low)
+-- any other digit at the end is raised in place
+pub last_raised : (ds kept front : List ℕ) (d : ℕ) → kept ≡ front ++ d ∷ [] → kept ≡ take (length kept) ds → length kept ≤ length ds → d < 9 → some (take (length kept) (set ds (length front) (d + 1))) ≡ raised kept
+last_raised ds kept front d h k room low =
+    let n : length kept ≡ length front + 1 = omega (arith, ap length h, length-append front (d ∷ [])) in
+    ap (λ m. some (take m (set ds (length front) (d + 1)))) n
+    ∙ ap some (take_more_set ds (length front) (d + 1) (omega arith) ∙ ap (λ p. p ++ (d + 1) ∷ []) (sym (front_of ds kept front d h k)))
+    ∙ sym (ap raised h ∙ raised_digit front d low)
 
 -- all digits are a whole number, which several meters share
 pub whole_shared : (ds : List ℕ) (n : ℕ) → length ds ≡ 8 → 8 ≤ n → ◌≡◌ {A = List (Entry (List ℕ))} (shared ds ∷ []) (cond (ltb (length (take n ds)) 8) [] (shared (take n ds) ∷ []))

@@ -2,12 +2,13 @@
 use Rattle.std.specs.Prelude.{ℕ, List}
 use Rattle.telegram.specs.Addresses.{address_bytes}
 use Rattle.search.specs.Verdicts as verdicts
-use Rattle.search.specs.declared.verdict.Verdict.{Verdict}
-use Rattle.search.specs.declared.verdict.Verdict.TheVariants.{Nobody, One, Several}
+use Rattle.telegram.specs.declared.address.Address.{Address}
+use Rattle.telegram.specs.declared.matches.Matches.{Matches}
+use Rattle.telegram.specs.declared.matches.Matches.TheVariants.{Nobody, One, Several}
 use Rattle.search.specs.declared.entry.Entry.{Entry}
 use Rattle.search.specs.declared.entry.Entry.TheVariants.{Meter, Shared}
 
-abbrev pub verdict_of : Verdict → verdicts.Verdict (List ℕ)
+abbrev pub verdict_of : Matches Address → verdicts.Verdict (List ℕ)
 verdict_of Nobody = verdicts.nobody
 verdict_of (One a) = verdicts.one (address_bytes a)
 verdict_of Several = verdicts.several

@@ -4,4 +4,3 @@
 pub mod beginning;
 pub mod entry;
 pub mod laws;
-pub mod verdict;

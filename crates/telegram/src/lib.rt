@@ -4,6 +4,7 @@
 pub mod address;
 pub mod digits;
 pub mod fault;
+pub mod matches;
 pub mod pattern;
 pub mod reply;
 pub mod request;

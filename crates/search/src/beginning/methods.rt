@@ -1,5 +1,5 @@
 // What a beginning selects, what its probe lists, and which beginning comes after it.
-ghost use Rattle.std.specs.Prelude.{◌≡◌, ◌<◌, [], map};
+ghost use Rattle.std.specs.Prelude.{◌≡◌, ◌+◌, ◌*◌, ◌<◌, [], map};
 ghost use Rattle.std.specs.Option.{option_to_list};
 ghost use Rattle.telegram.specs.Patterns.{digit_or_wildcard, beginning_pattern};
 ghost use Rattle.search.specs.Addresses.{number, FitsBeginning};
@@ -12,7 +12,8 @@ ghost use Rattle.search.specs.Verdicts.{found};
 
 use super::Beginning;
 use crate::entry::{Entry, Number};
-use crate::verdict::Verdict;
+use telegram::address::Address;
+use telegram::matches::Matches;
 use telegram::pattern::Pattern;
 
 impl Beginning {
@@ -35,37 +36,44 @@ impl Beginning {
         if i < self.len { self.digits[i] } else { 0xF }
     }
 
+    // Two digits as a byte, the first of them at a place.
+    fn pair(&self, i: usize) -> u8
+        requires { i < 7 }
+        ensures { result ≡ digit_or_wildcard (digits_of self.now) i * 16 + digit_or_wildcard (digits_of self.now) (i + 1) }
+    {
+        self.digit_or_any(i) * 16 + self.digit_or_any(i + 1)
+    }
+
     // The digits, then F, two to a byte, the lowest pair first; then FF four times.
     pub fn pattern(&self) -> Pattern
         ensures bytes { result.bytes ≡ beginning_pattern (digits_of self.now) }
         ensures fits { FitsBeginning result.bytes (digits_of self.now) }
     {
-        let a = self.digit_or_any(6) * 16 + self.digit_or_any(7);
-        let b = self.digit_or_any(4) * 16 + self.digit_or_any(5);
-        let c = self.digit_or_any(2) * 16 + self.digit_or_any(3);
-        let d = self.digit_or_any(0) * 16 + self.digit_or_any(1);
         Pattern {
-            bytes: [a, b, c, d, 0xFF, 0xFF, 0xFF, 0xFF],
+            bytes: [
+                self.pair(6),
+                self.pair(4),
+                self.pair(2),
+                self.pair(0),
+                0xFF,
+                0xFF,
+                0xFF,
+                0xFF,
+            ],
         }
     }
 
     // What the verdict on this beginning lists.
-    pub fn entry(&self, verdict: Verdict) -> Option<Entry>
+    pub fn entry(&self, verdict: Matches<Address>) -> Option<Entry>
         ensures found { map entry_of (option_to_list result) ≡ found 8 (digits_of self.now) (verdict_of verdict) }
         ensures lists { Lists number 8 (digits_of self.now) (verdict_of verdict) (map entry_of (option_to_list result)) }
     {
         match verdict {
-            Verdict::Nobody => None,
-            Verdict::One(address) => Some(Entry::Meter(address)),
-            Verdict::Several => {
-                if self.len < 8 {
-                    None
-                } else {
-                    Some(Entry::Shared(Number {
-                        digits: self.digits,
-                    }))
-                }
-            }
+            Matches::One(address) => Some(Entry::Meter(address)),
+            Matches::Several if self.len == 8 => Some(Entry::Shared(Number {
+                digits: self.digits,
+            })),
+            _ => None,
         }
     }
 
@@ -86,32 +94,27 @@ impl Beginning {
     fn raised(&self) -> Option<Beginning>
         ensures { followed result ≡ raised (digits_of self.now) }
     {
-        let mut len = self.len;
-        while len > 0 && self.digits[len - 1] == 9 {
-            len -= 1;
+        let mut kept = &self.digits[..self.len];
+        loop {
+            let (last, front) = kept.split_last()?;
+            if *last < 9 {
+                let mut digits = self.digits;
+                digits[front.len()] = *last + 1;
+                let len = kept.len();
+                return Some(Beginning { digits, len });
+            }
+            kept = front;
         }
-        if len == 0 {
-            return None;
-        }
-        let mut digits = self.digits;
-        digits[len - 1] += 1;
-        Some(Beginning { digits, len })
     }
 
     // The beginning to probe after this one.
-    pub fn after(&self, verdict: Verdict) -> Option<Beginning>
+    pub fn after(&self, verdict: Matches<Address>) -> Option<Beginning>
         ensures next { followed result ≡ upnext 8 (digits_of self.now) (verdict_of verdict) }
         ensures leads { Leads number 8 (digits_of self.now) (verdict_of verdict) (followed result) }
     {
         match verdict {
-            Verdict::Several => {
-                if self.len < 8 {
-                    Some(self.deeper())
-                } else {
-                    self.raised()
-                }
-            }
-            Verdict::Nobody | Verdict::One(_) => self.raised(),
+            Matches::Several if self.len < 8 => Some(self.deeper()),
+            _ => self.raised(),
         }
     }
 }

@@ -1,4 +1,4 @@
-use Rattle.std.proofs.Common.{◌++◌, map, length, take, sym, refl, ap, ◌∙◌, subst, arith, length-take-le}
+use Rattle.std.proofs.Common.{◌++◌, map, length, take, sym, refl, ap, ◌∙◌, subst, arith, length-take-le, rules}
 use lib.ListN.{length-map}
 use Rattle.std.specs.Option.{option_to_list}
 use Rattle.std.proofs.lemmas.List.{map-append}
@@ -41,7 +41,8 @@ returns-in_default g c =
     let single = ap length (sym c.entry.ensures.found) ∙ length-map (option_to_list c.entry.result) entry_of ∙ refused.0 in
     let most = length-map (entries_of l) entry_of ∙ length-take-le (used_of l) (all_places l) l.within ∙ refused.2 ∙ placed.size in
     record {
-      walked = sofar_full _ _ _ _ _ _ c.walk.invariant.0 _ c.probe-verdict.ensures.probed single _ same _ most;
+      entries = search rules;
+      walked = rw (ap (λ x. x.selections) c.summary-summary.ensures) (sofar_full _ _ _ _ _ _ c.walk.invariant.0 _ c.probe-verdict.ensures.probed single _ same _ most);
       filled = placed;
       lender = c.in_default.ensures.lender ∙ c.walk.invariant.2 ∙ c.clear.ensures.lender;
       layers = c.probe-verdict.ensures.layers ∙ c.walk.invariant.3;
@@ -53,7 +54,8 @@ returns-in_default-after g c =
     let more = ap (map entry_of) added ∙ map-append entry_of (entries_of c.walk.list) (option_to_list c.entry.result) ∙ ap (λ l. map entry_of (entries_of c.walk.list) ++ l) c.entry.ensures.found in
     let filled = c.in-Ok.ensures.filled _ c.walk.invariant.1 in
     record {
-      walked = sofar_whole _ _ _ _ _ _ c.walk.invariant.0 _ c.probe-verdict.ensures.probed c.in_default-after.ensures.next _ more _;
+      entries = search rules;
+      walked = rw (ap (λ x. x.selections) c.summary.ensures) (sofar_whole _ _ _ _ _ _ c.walk.invariant.0 _ c.probe-verdict.ensures.probed c.in_default-after.ensures.next _ more _);
       filled = subst (λ ps. Filled ps c.add.new.list) c.clear.ensures.places filled;
       lender = c.in-Ok.ensures.lender ∙ c.walk.invariant.2 ∙ c.clear.ensures.lender;
       layers = c.probe-verdict.ensures.layers ∙ c.walk.invariant.3;

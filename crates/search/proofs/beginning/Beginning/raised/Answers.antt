@@ -1,16 +1,18 @@
-use Rattle.std.proofs.Common.{◌-◌, ◌<◌, get_or, ◌∙◌, arith}
-use Rattle.search.proofs.Raising.{back_nine, raise_at}
+use Rattle.std.proofs.Common.{ap, ◌∙◌, length, [], ◌∷◌, arith}
+use Rattle.std.proofs.lemmas.List.{length-append}
+use Rattle.search.proofs.Raising.{front_of, last_raised, nine_dropped}
 use Rattle.search.proofs.beginning.Beginning.raised.Goals as goal
-use Rattle.search.proofs.beginning.Beginning.raised.Goals.{then-loop-len-test+else-self-len-eq9, else-loop-len-test}
 
-pub loop-len-preserved : goal.loop-len-preserved
-loop-len-preserved c =
-    (omega arith, back_nine c.args.self.now.digits c.loop-len.len c.loop-len-test.true (omega arith) c.if-self-len-eq9.true ∙ c.loop-len.invariant.1)
+pub returns-then-last-lt9 : goal.returns-then-last-lt9
+returns-then-last-lt9 c =
+    let i = c.loop-last.invariant in
+    last_raised c.args.self.now.digits c.loop-last.kept.now c.in_ok-last.front.now c.in_ok-last.last.now c.in_ok-last.ensures.cases.0 i.1 (omega arith) c.if-last-lt9.true ∙ i.2
 
-pub returns : goal.returns
-returns c =
-    let ds = c.args.self.now.digits in
-    let n = c.loop-len.len in
-    let digit = c.args.self.now.decimal (n - 1) in
-    let low : get_or ds (n - 1) 0 < 9 = elim c.loop-len-test.branch [ then-loop-len-test+else-self-len-eq9 w ↦ omega (arith, w.if-self-len-eq9.false, digit) | else-loop-len-test w ↦ omega (arith, w.loop-len-test.false, c.if-len-eq0.false) ] in
-    raise_at ds n (omega arith) (omega arith) low ∙ c.loop-len.invariant.1
+pub loop-last-preserved : goal.loop-last-preserved
+loop-last-preserved c =
+    let i = c.loop-last.invariant in
+    let k = c.in_ok-last.ensures.cases.0 in (
+      omega (arith, ap length k, length-append c.in_ok-last.front.now (c.in_ok-last.last.now ∷ [])),
+      front_of c.args.self.now.digits c.loop-last.kept.now c.in_ok-last.front.now c.in_ok-last.last.now k i.1,
+      nine_dropped c.loop-last.kept.now c.in_ok-last.front.now c.in_ok-last.last.now k c.if-last-lt9.false ∙ i.2,
+    )
