@@ -68,6 +68,7 @@ impl<L: Line> Master<L> {
     {
         let count = calls.len().min(outcomes.len());
         let mut master = self;
+        // tried as a `zip` with `iter_mut`: the outcomes written through it are no values that the loop's invariant can name
         for i in 0..count {
             let (after, outcome) = master.step(calls[i], places);
             master = after;
