@@ -10,7 +10,7 @@ use printing::outcome::print_outcome;
 use printing::telegram_items::print_fault;
 use round::any_master::Master;
 use round::call::{Call, Outcome};
-use search::entry::{Entry, Number};
+use search::entry::{Entry, NOTHING};
 use std::fs::File;
 use std::io;
 use std::io::{BufWriter, ErrorKind, Read, Write};
@@ -27,20 +27,13 @@ const MOST_TELEGRAMS: usize = 16;
 // As many places for found meters as a capture may have meters.
 const PLACES: usize = 250;
 
-// What a place holds before a meter is found.
-const NOTHING: Entry = Entry::Shared(Number { digits: [0; 8] });
-
 // The bytes of the file; a missing file counts as empty.
 fn read_file(rt: &HostRuntime) -> io::Result<Vec<u8>> {
     let mut bytes = Vec::new(rt.alloc());
     let file = match File::open(rt, FILE) {
         Ok(file) => file,
-        Err(error) => {
-            if error.kind() == ErrorKind::NotFound {
-                return Ok(bytes);
-            }
-            return Err(error);
-        }
+        Err(error) if error.kind() == ErrorKind::NotFound => return Ok(bytes),
+        Err(error) => return Err(error),
     };
     file.take(MOST_READ).read_to_end(&mut bytes)?;
     Ok(bytes)
@@ -98,11 +91,9 @@ fn read_line<L: Line + Drop, O: Write>(out: &mut O, line: L) -> io::Result<()> {
 
 // Prints the sizes of a capture, and reads its meters.
 fn read_capture<O: Write>(out: &mut O, capture: Capture) -> io::Result<()> {
-    let line = CaptureLine {
-        meters: capture.meters(),
-        telegrams: capture.telegrams(),
-    };
-    writeln!(out, "{line}")?;
+    let meters = capture.meters();
+    let telegrams = capture.telegrams();
+    writeln!(out, "{}", CaptureLine { meters, telegrams })?;
     read_line(out, capture)
 }
 

@@ -14,7 +14,7 @@ use printing::outcome::print_outcome;
 use printing::telegram_items::print_fault;
 use round::any_master::Master;
 use round::call::{Call, Outcome};
-use search::entry::{Entry, Number};
+use search::entry::{Entry, NOTHING};
 use std::io;
 use std::io::{BufRead, BufReader, BufWriter, Write};
 
@@ -23,9 +23,6 @@ const MOST_CALLS: usize = 64;
 
 // The most places that a search can have for meters, and those that it has if no line says otherwise.
 const MOST_PLACES: usize = 250;
-
-// What a place holds before a meter is found.
-const NOTHING: Entry = Entry::Shared(Number { digits: [0; 8] });
 
 // What is done with a line once it is made.
 #[derive(Clone, Copy)]
@@ -36,20 +33,15 @@ struct Plan<'a> {
     places: usize,
 }
 
-fn print_making_fault<O: Write, F: Fault>(out: &mut O, fault: &F) -> io::Result<()> {
-    print_fault(out, None, fault)
-}
-
 // How many of the calls to make at a time: up to the first search, so that each search has its places to itself.
 fn stretch(calls: &[Call]) -> usize
     ensures { (result ≤ length calls.now) × (0 < length calls.now → 0 < result) }
 {
-    for (i, call) in calls.iter().take(MOST_CALLS).enumerate() {
-        if let Call::Search = call {
-            return i + 1;
-        }
-    }
-    calls.len().min(MOST_CALLS)
+    let most = calls.len().min(MOST_CALLS);
+    calls[..most]
+        .iter()
+        .position(|call| matches!(call, Call::Search))
+        .map_or(most, |i| i + 1)
 }
 
 // Prints the outcomes of calls, the first of which has this number.
@@ -59,10 +51,8 @@ fn print_outcomes<O: Write>(
     outcomes: &[Outcome],
     entries: &[Entry],
 ) -> io::Result<()> {
-    let mut number = first;
-    for outcome in outcomes {
+    for (number, outcome) in (first..).zip(outcomes) {
         print_outcome(out, number, outcome, entries)?;
-        number = number.saturating_add(1);
     }
     Ok(())
 }
@@ -75,26 +65,24 @@ fn make_calls<L: Line + Drop, O: Write>(
     outcomes: &mut [Outcome],
     entries: &mut [Entry],
 ) -> io::Result<()> {
-    let mut made = stretch(calls);
-    let (mut master, progress) = Master::start(line, &calls[0..made], outcomes, entries);
-    let count = progress.calls;
-    print_outcomes(out, 1, &outcomes[0..count], entries)?;
-    while made < calls.len() {
-        let next = made + stretch(&calls[made..]);
-        let (after, progress) = master.run(&calls[made..next], outcomes, entries);
+    let (now, mut left) = calls.split_at(stretch(calls));
+    let (mut master, progress) = Master::start(line, now, outcomes, entries);
+    print_outcomes(out, 1, &outcomes[..progress.calls], entries)?;
+    while !left.is_empty() {
+        let first = (calls.len() - left.len()) as u64;
+        let (now, rest) = left.split_at(stretch(left));
+        let (after, progress) = master.run(now, outcomes, entries);
         master = after;
-        let first = (made as u64).saturating_add(1);
-        let count = progress.calls;
-        print_outcomes(out, first, &outcomes[0..count], entries)?;
-        made = next;
+        left = rest;
+        let number = first.saturating_add(1);
+        print_outcomes(out, number, &outcomes[..progress.calls], entries)?;
     }
     Ok(())
 }
 
 // Prints the sizes of what was made, and makes the calls of a plan.
 fn run<L: Line + Drop, O: Write>(out: &mut O, line: L, plan: Plan) -> io::Result<()> {
-    let sizes = plan.sizes;
-    writeln!(out, "{sizes}")?;
+    writeln!(out, "{}", plan.sizes)?;
     let mut outcomes = [Outcome::Misuse; MOST_CALLS];
     let mut entries = [NOTHING; MOST_PLACES];
     let places = plan.places.min(MOST_PLACES);
@@ -107,29 +95,43 @@ fn run<L: Line + Drop, O: Write>(out: &mut O, line: L, plan: Plan) -> io::Result
     )
 }
 
-// Puts the layers on the bench, the first below, and goes on with the topmost.
+// Puts a layer on a line, or prints why there can be none.
+fn make_layer<L: Line + Drop, O: Write>(
+    out: &mut O,
+    line: L,
+    limit: u8,
+) -> io::Result<Option<Retry<L>>> {
+    match Retry::new(line, limit) {
+        Ok(layer) => Ok(Some(layer)),
+        Err(fault) => {
+            print_fault(out, None, &fault)?;
+            Ok(None)
+        }
+    }
+}
+
+// Puts the layers on the bench, the first below, and goes on with the topmost. Each pile of layers has a type of its own,
+// so that a loop cannot hold them.
 fn make_layers<O: Write>(out: &mut O, bench: Bench, limits: &[u8], plan: Plan) -> io::Result<()> {
-    let Some(limit) = limits.get(0) else {
+    let Some((limit, limits)) = limits.split_first() else {
         return run(out, bench, plan);
     };
-    let first = match Retry::new(bench, *limit) {
-        Ok(layer) => layer,
-        Err(fault) => return print_making_fault(out, &fault),
+    let Some(first) = make_layer(out, bench, *limit)? else {
+        return Ok(());
     };
-    let Some(limit) = limits.get(1) else {
+    let Some((limit, limits)) = limits.split_first() else {
         return run(out, first, plan);
     };
-    let second = match Retry::new(first, *limit) {
-        Ok(layer) => layer,
-        Err(fault) => return print_making_fault(out, &fault),
+    let Some(second) = make_layer(out, first, *limit)? else {
+        return Ok(());
     };
-    let Some(limit) = limits.get(2) else {
+    let Some(limit) = limits.first() else {
         return run(out, second, plan);
     };
-    match Retry::new(second, *limit) {
-        Ok(layer) => run(out, layer, plan),
-        Err(fault) => print_making_fault(out, &fault),
-    }
+    let Some(third) = make_layer(out, second, *limit)? else {
+        return Ok(());
+    };
+    run(out, third, plan)
 }
 
 // Makes the bench of a house and the layers over it.
@@ -144,21 +146,17 @@ fn make<O: Write>(out: &mut O, house: House) -> io::Result<()> {
     } = house;
     let bench = match Bench::new(rows, area, codes) {
         Ok(bench) => bench,
-        Err(fault) => return print_making_fault(out, &fault),
+        Err(fault) => return print_fault(out, None, &fault),
     };
     let sizes = SizesLine {
         meters: bench.meters(),
         codes: bench.codes(),
         layers: limits.len(),
     };
-    let places = match places {
-        Some(count) => count as usize,
-        None => MOST_PLACES,
-    };
     let plan = Plan {
         sizes,
         calls: calls.as_slice(),
-        places,
+        places: places.map_or(MOST_PLACES, usize::from),
     };
     make_layers(out, bench, limits.as_slice(), plan)
 }
@@ -166,17 +164,14 @@ fn make<O: Write>(out: &mut O, house: House) -> io::Result<()> {
 fn main(rt: HostRuntime) -> anyhow::Result<()> {
     let mut out = BufWriter::new(rt.alloc(), rt.stdout())?;
     let mut house = House::new(rt.alloc());
-    let mut lines: u64 = 0;
     let mut readable = true;
-    for next in BufReader::new(rt.alloc(), rt.stdin())?.split(rt.alloc(), b'\n') {
-        let line = next?;
-        lines = lines.saturating_add(1);
-        house = match house.prepare(rt.alloc(), line)?.add() {
+    let lines = BufReader::new(rt.alloc(), rt.stdin())?.split(rt.alloc(), b'\n');
+    for (line, text) in (1..).zip(lines) {
+        house = match house.prepare(rt.alloc(), text?)?.add() {
             Ok(house) => house,
             Err(unreadable) => {
                 readable = false;
-                let line = UnreadableLine { line: lines };
-                writeln!(out, "{line}")?;
+                writeln!(out, "{}", UnreadableLine { line })?;
                 unreadable.house
             }
         };

@@ -7,6 +7,9 @@ pub struct Number {
     pub digits: [u8; 8],
 }
 
+// What a place for an entry holds before a meter is found.
+pub const NOTHING: Entry = Entry::Shared(Number { digits: [0; 8] });
+
 #[derive(Clone, Copy)]
 pub enum Entry {
     // The only meter with its number.
