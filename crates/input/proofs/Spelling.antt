@@ -2,7 +2,7 @@
 use Rattle.std.proofs.Common.{◌≡◌, ℕ, ◌+◌, ◌*◌, true, false, cond, eqb, List, [], ◌∷◌, is_some, Some, None, Option, sym, refl, ap, ◌∙◌, subst, ⊎_elim, arith}
 use Rattle.std.proofs.lemmas.Bool.{cases_eq, ne_eqb}
 use Rattle.input.specs.Hex.{Spells, nothing, space, pair, after_step, and_byte, bytes_from, hex_value, is_hex}
-use Rattle.input.specs.declared.hex.Step.TheVariants.{Open, Stray}
+use Rattle.input.specs.declared.hex.Step.TheVariants.{Open}
 
 -- the bytes of a text are spelled
 abbrev Reads : List ℕ → Type 0
@@ -15,7 +15,7 @@ ReadsOn cs = (c d : ℕ) (bs : List ℕ) → hex_value c ≡ Some d → bytes_fr
 -- the first character of a text, by its value
 first_spelled : (e : ℕ) (cs : List ℕ) (v : Option ℕ) → hex_value e ≡ v → Reads cs → ReadsOn cs → Reads (e ∷ cs)
 first_spelled e cs None q r s bs h =
-    let k : after_step (cond (eqb e 0x20) (Open None) Stray) (λ x. bytes_from cs x) ≡ Some bs = simp q at h in
+    let k : after_step (cond (eqb e 0x20) (Some (Open None)) None) (λ x. bytes_from cs x) ≡ Some bs = simp q at h in
     ⊎_elim
     (λ (b : e ≡ 0x20).
     let P : ℕ → Type 0 = λ x. Spells (x ∷ cs) bs in
