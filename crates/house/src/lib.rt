@@ -9,4 +9,5 @@ mod house_line;
 mod keyword;
 mod number;
 pub mod pending;
+mod room;
 mod words;

@@ -1,12 +1,14 @@
 // Adding lines to a house.
-ghost use Rattle.std.specs.Prelude.{◌≡◌, ◌+◌, ◌<◌, ◌≤◌, IfOk, vec_len, vec_capacity};
-ghost use Rattle.house.specs.Houses.{Adds, no_parts, parts_of};
-ghost use Rattle.house.specs.Lines.{added};
+ghost use Rattle.std.specs.Prelude.{◌≡◌, length, is_some, IfOk, MatchOption};
+ghost use Rattle.house.specs.Houses.{Adds, RefusesLine, TakesLine, no_parts, parts_of};
+ghost use Rattle.house.specs.Lines.{added, said};
+ghost use Rattle.house.specs.Memory.{IsRoomFor, TakesMore};
 ghost use Rattle.house.specs.Taking.{Accepts};
 
 use super::Pending;
 use crate::house::{House, Unreadable};
 use crate::house_line::{HouseLine, read_line};
+use crate::room::Room;
 use std::alloc::{AllocError, Global};
 
 const MOST_LAYERS: usize = 3;
@@ -38,24 +40,17 @@ impl House {
         house.codes.reserve(size)?;
         house.limits.reserve(1)?;
         house.calls.reserve(1)?;
-        let bytes = Vec::with_capacity(heap, size)?;
-        let bodies = Vec::with_capacity(heap, size)?;
-        Ok(Pending {
-            house,
-            line,
-            bytes,
-            bodies,
-        })
+        let room = Room {
+            bytes: Vec::with_capacity(heap, size)?,
+            bodies: Vec::with_capacity(heap, size)?,
+        };
+        Ok(Pending { house, line, room })
     }
 
     // Adds what a line says, if the house takes it.
-    fn take(&mut self, line: HouseLine) -> bool
-        requires rows { vec_len self.old.rows < vec_capacity self.old.rows }
-        requires area { vec_len self.old.area + added line ≤ vec_capacity self.old.area }
-        requires codes { vec_len self.old.codes + added line ≤ vec_capacity self.old.codes }
-        requires limits { vec_len self.old.limits < vec_capacity self.old.limits }
-        requires calls { vec_len self.old.calls < vec_capacity self.old.calls }
-        ensures { Accepts (parts_of self.old) line result (parts_of self.new) }
+    fn take(&mut self, line: HouseLine) -> Option<()>
+        requires { TakesMore self.old (added line) }
+        ensures { Accepts (parts_of self.old) (said line) (is_some result) (parts_of self.new) }
     {
         match line {
             HouseLine::Skipped => {}
@@ -68,20 +63,29 @@ impl House {
             }
             HouseLine::Retry(limit) => {
                 if self.limits.len() >= MOST_LAYERS {
-                    return false;
+                    return None;
                 }
                 self.limits.push_reserved(limit);
             }
             HouseLine::Places(count) => {
                 if self.places.is_some() {
-                    return false;
+                    return None;
                 }
                 self.places = Some(count);
             }
             HouseLine::Call(call) => self.calls.push_reserved(call),
-            HouseLine::Unreadable => return false,
         }
-        true
+        Some(())
+    }
+
+    // Adds what a line, given without its line feed, says. Nothing is added by a line that says nothing which the
+    // house takes.
+    fn read(&mut self, line: &[u8], room: Room) -> Option<()>
+        requires room { IsRoomFor room (length line.now) }
+        requires memory { TakesMore self.old (length line.now) }
+        ensures { MatchOption result (RefusesLine (parts_of self.old) line.now (parts_of self.new)) (λ taken. TakesLine (parts_of self.old) line.now (parts_of self.new)) }
+    {
+        self.take(read_line(line, room)?)
     }
 }
 
@@ -93,13 +97,11 @@ impl Pending {
         let Pending {
             mut house,
             line,
-            bytes,
-            bodies,
+            room,
         } = self;
-        if house.take(read_line(line.as_slice(), bytes, bodies)) {
-            Ok(house)
-        } else {
-            Err(Unreadable { house })
+        match house.read(line.as_slice(), room) {
+            Some(()) => Ok(house),
+            None => Err(Unreadable { house }),
         }
     }
 }
