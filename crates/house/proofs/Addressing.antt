@@ -1,8 +1,9 @@
 -- A number of decimal digits is an address's number.
-use Rattle.std.proofs.Common.{◌≡◌, ℕ, ◌+◌, ◌-◌, ◌*◌, ◌/◌, ◌%◌, ◌<◌, ◌≤◌, true, leb, List, length, get_or, is_ok, Some, None, Ok, Err, Result, unwrap_or, refl, ap, ◌∙◌, arith}
+use Rattle.std.proofs.Common.{sym, ◌≡◌, ℕ, ◌+◌, ◌-◌, ◌*◌, ◌/◌, ◌%◌, ◌<◌, ◌≤◌, true, leb, List, length, get_or, is_ok, Some, None, Ok, Err, Result, unwrap_or, refl, ap, ◌∙◌, arith}
 use Rattle.std.specs.List.{list_all}
 use Rattle.std.proofs.lemmas.List.Sums.{AllPass-from_list_all}
 use Rattle.std.proofs.lemmas.Bool.{and_from, and_parts, cond-true, eqb-true, le-leb, leb-true}
+use Rattle.std.proofs.lemmas.Option.{none-some}
 use Rattle.link.specs.Checks.{first_fault}
 use Rattle.telegram.specs.declared.fault.ReplyFault.{ReplyFault}
 use Rattle.telegram.specs.Digits.{decimal, digit_checks}
@@ -32,7 +33,7 @@ pair_decimal w i e h = both_small (digit_value (get_or w i 0)) (digit_value (get
 
 no_fault : {T : Type 0} (r : Result T ReplyFault) → reply_fault r ≡ None → is_ok r ≡ true
 no_fault (Ok x) e = refl
-no_fault (Err f) e = let z : ◌≡◌ {A = ℕ} 0 1 = cc in absurd (omega arith)
+no_fault (Err f) e = absurd (none-some _ (sym e))
 
 pub is_made : {T : Type 0} (r : Result T ReplyFault) (number maker version medium : List ℕ) → is_address number maker version medium ≡ true → reply_fault r ≡ first_fault (digit_checks 0 (address_of number maker version medium)) → is_ok r ≡ true
 is_made r number maker version medium e f =

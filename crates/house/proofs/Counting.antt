@@ -17,9 +17,6 @@ pub record Counted (w : List ℕ) (i value : ℕ) : Type 0 where
   pub digits : list_all decimal_digit (drop i w) ≡ list_all decimal_digit w
   pub number : fold next_digit value (drop i w) ≡ decimal_value w
 
-pub counted_none : (w : List ℕ) → Counted w 0 0
-counted_none w = record { digits = refl; number = refl }
-
 abbrev number : ℕ → List ℕ → Option ℕ
 number most w = cond (is_decimal most w) (Some (decimal_value w)) None
 

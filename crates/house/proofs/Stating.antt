@@ -1,11 +1,12 @@
 -- A text is read as a statement exactly where it spells it.
-use Rattle.std.proofs.Common.{◌≡◌, ℕ, ◌<◌, Bool, true, false, cond, not, ◌&&◌, eqb, ltb, List, [], ◌∷◌, ◌++◌, map, length, drop, Some, None, codes, Option, sym, refl, ap, ◌∙◌, subst, ⊎_elim, arith}
+use Rattle.std.proofs.Common.{◌≡◌, ℕ, ◌<◌, true, false, not, ◌&&◌, eqb, ltb, List, [], ◌∷◌, ◌++◌, map, length, drop, Some, None, codes, Option, sym, refl, ap, ◌∙◌, subst, ⊎_elim, arith}
 use Rattle.std.specs.List.{AllByRecursion, list_all}
 use Rattle.std.specs.Option.{option_map}
 use Rattle.std.specs.Str.{bytes_eq}
 use Rattle.std.proofs.lemmas.Slice.Eq.{bytes_eq-Decides}
 use Rattle.std.proofs.lemmas.List.{append-nil, drop_at}
 use Rattle.std.proofs.lemmas.Bool.{and_from, and_left, and_parts, and_right, cases_Bool, cases_eq, cond_both, cond-false, cond-true, eq-eqb, eqb-false, eqb-true, lt-ltb, ne_eqb, or_from, true≢false}
+use Rattle.std.proofs.lemmas.Option.{cond_some, none-some}
 use Rattle.input.specs.Hex as hex
 use Rattle.input.specs.Lines.{blank, skips}
 use Rattle.input.proofs.Spelling.{spelled, spelling}
@@ -110,23 +111,19 @@ named w =
     (λ _. cond_both (bytes_eq w (codes "r")) _ _ (Named w) (λ e. (bytes_eq-Decides w (codes "r")).0 e) (λ _. tt)))))))))
 
 -- what follows a keyword spells what is read from it
-tested : {X : Type 0} (t : Bool) (x y : X) → cond t (Some x) None ≡ Some y → (t ≡ true) × (x ≡ y)
-tested true x y e = (refl, cc)
-tested false x y e = let z : ◌≡◌ {A = ℕ} 0 1 = cc in absurd (omega arith)
-
 never : {X : Type 0} → false ≡ true → X
 never e = absurd (true≢false (sym e))
 
 area_said : (cs : List ℕ) (s : Statement) (o : Option (List ℕ)) → hex.bytes_from (0x20 ∷ cs) None ≡ o → area_from o ≡ Some s → Spells (codes "area" ++ 0x20 ∷ cs) s
-area_said cs s None e h = let z : ◌≡◌ {A = ℕ} 0 1 = cc in absurd (omega arith)
-area_said cs s (Some []) e h = let z : ◌≡◌ {A = ℕ} 0 1 = cc in absurd (omega arith)
+area_said cs s None e h = absurd (none-some s h)
+area_said cs s (Some []) e h = absurd (none-some s h)
 area_said cs s (Some (b ∷ bs)) e h =
     let k : area (b ∷ bs) ≡ s = cc in
     subst (Spells (codes "area" ++ 0x20 ∷ cs)) k (area_line (spelled (0x20 ∷ cs) (b ∷ bs) e) (omega arith))
 
 sound_area : {cs : List ℕ} {ws : List (List ℕ)} (s : Statement) → Fields cs ws → area_in cs ≡ Some s → Spells (codes "area" ++ cs) s
 unfolding area_in
-sound_area s none h = let z : ◌≡◌ {A = ℕ} 0 1 = cc in absurd (omega arith)
+sound_area s none h = absurd (none-some s h)
 sound_area s (space {cs} f) h = area_said cs s (hex.bytes_from (0x20 ∷ cs) None) refl h
 sound_area s (field {w} {cs} word f) h = area_said (w ++ cs) s (hex.bytes_from (0x20 ∷ w ++ cs) None) refl h
 
@@ -146,9 +143,9 @@ sound_meter cs ws s f t e =
 
 sound_fault : (cs : List ℕ) (ws : List (List ℕ)) (s : Statement) → Fields cs ws → fault_in ws ≡ Some s → Spells (codes "fault" ++ cs) s
 unfolding fault_in
-sound_fault cs [] s f h = let z : ◌≡◌ {A = ℕ} 0 1 = cc in absurd (omega arith)
+sound_fault cs [] s f h = absurd (none-some s h)
 sound_fault cs (w ∷ ws) s f h =
-    let t = tested (ltb 0 (length (w ∷ ws)) && list_all is_code (w ∷ ws)) (fault (map decimal_value (w ∷ ws))) s h in
+    let t = cond_some (ltb 0 (length (w ∷ ws)) && list_all is_code (w ∷ ws)) (fault (map decimal_value (w ∷ ws))) s h in
     subst (Spells (codes "fault" ++ cs)) t.1 (fault_line f (and_parts (ltb 0 (length (w ∷ ws))) _ t.0).1)
 
 -- one number
@@ -166,20 +163,20 @@ alone most (w ∷ x ∷ ws) n a e t v = absurd (omega (arith, a.1.0, eqb-true (l
 sound_number : (most : ℕ) (ws : List (List ℕ)) (n : ℕ) → AllByRecursion (λ w. 0 < length w) ws → number_in most ws ≡ Some n → Alone most ws n
 unfolding number_in
 sound_number most ws n a h =
-    let t = tested (eqb (length (word_at ws 1)) 0 && is_decimal most (word_at ws 0)) (decimal_value (word_at ws 0)) n h in
+    let t = cond_some (eqb (length (word_at ws 1)) 0 && is_decimal most (word_at ws 0)) (decimal_value (word_at ws 0)) n h in
     let p = and_parts (eqb (length (word_at ws 1)) 0) _ t.0 in
     alone most ws n a p.0 p.1 t.1
 
 with_alone : (f : ℕ → Statement) (most : ℕ) (ws : List (List ℕ)) (s : Statement) (o : Option ℕ) → number_in most ws ≡ o → AllByRecursion (λ w. 0 < length w) ws → option_map f o ≡ Some s → (n : ℕ) × (Alone most ws n × (f n ≡ s))
-with_alone f most ws s None e a h = let z : ◌≡◌ {A = ℕ} 0 1 = cc in absurd (omega arith)
+with_alone f most ws s None e a h = absurd (none-some s h)
 with_alone f most ws s (Some n) e a h = (n, (sound_number most ws n a e, cc))
 
 -- a call
 sound_call : (a : Asked) (cs : List ℕ) (ws : List (List ℕ)) (s : Statement) → Fields cs ws → AllByRecursion (λ w. 0 < length w) ws → call_in a ws ≡ Some s → Fields cs [] × (call a ≡ s)
 unfolding call_in
-sound_call a cs [] s f n h = (f, (tested true (call a) s h).1)
+sound_call a cs [] s f n h = (f, (cond_some true (call a) s h).1)
 sound_call a cs (w ∷ ws) s f n h =
-    let t = tested (eqb (length w) 0) (call a) s h in
+    let t = cond_some (eqb (length w) 0) (call a) s h in
     absurd (omega (arith, n.0, eqb-true (length w) 0 t.0))
 
 pick_words : (cs : List ℕ) (ws : List (List ℕ)) (s : Statement) → Fields cs ws → AllByRecursion (λ w. 0 < length w) ws → is_address (word_at ws 0) (word_at ws 1) (word_at ws 2) (word_at ws 3) ≡ true → has_digits Hexadecimal 2 (word_at ws 3) ≡ true → eqb (length (word_at ws 4)) 0 ≡ true → call (picking (address_of (word_at ws 0) (word_at ws 1) (word_at ws 2) (word_at ws 3))) ≡ s → Spells (codes "p" ++ cs) s
@@ -193,7 +190,7 @@ pick_words cs (x ∷ m ∷ v ∷ y ∷ z ∷ ws) s f n a b d e = absurd (omega (
 sound_pick : (cs : List ℕ) (ws : List (List ℕ)) (s : Statement) → Fields cs ws → AllByRecursion (λ w. 0 < length w) ws → pick_in ws ≡ Some s → Spells (codes "p" ++ cs) s
 unfolding pick_in
 sound_pick cs ws s f n h =
-    let t = tested (is_pick ws) (call (picking (address_of (word_at ws 0) (word_at ws 1) (word_at ws 2) (word_at ws 3)))) s h in
+    let t = cond_some (is_pick ws) (call (picking (address_of (word_at ws 0) (word_at ws 1) (word_at ws 2) (word_at ws 3)))) s h in
     let p = and_parts (is_address (word_at ws 0) (word_at ws 1) (word_at ws 2) (word_at ws 3)) _ t.0 in
     let q = and_parts (has_digits Decimal 8 (word_at ws 0)) _ p.0 in
     let r = and_parts (has_digits Hexadecimal 4 (word_at ws 1)) _ q.1 in
@@ -204,7 +201,7 @@ sound_by : (k : Option Keyword) (w rest : List ℕ) (s : Statement) → Named w 
 unfolding meter_in
 sound_by (Some keyword.Area) w rest s e f h = subst (λ x. Spells (x ++ rest) s) (sym e) (sound_area s f h)
 sound_by (Some keyword.Meter) w rest s e f h =
-    let t = tested (is_meter (words rest)) (meter (meter_of (words rest))) s h in
+    let t = cond_some (is_meter (words rest)) (meter (meter_of (words rest))) s h in
     subst (λ x. Spells (x ++ rest) s) (sym e) (sound_meter rest (words rest) s f t.0 t.1)
 sound_by (Some keyword.Fault) w rest s e f h = subst (λ x. Spells (x ++ rest) s) (sym e) (sound_fault rest (words rest) s f h)
 sound_by (Some keyword.Retry) w rest s e f h =
@@ -229,7 +226,7 @@ sound_by (Some keyword.Fetch) w rest s e f h =
 sound_by (Some keyword.Release) w rest s e f h =
     let t = sound_call releasing rest (words rest) s f (all_words rest) h in
     subst (λ x. Spells (x ++ rest) s) (sym e) (subst (Spells (codes "r" ++ rest)) t.1 (release_line t.0))
-sound_by None w rest s e f h = let z : ◌≡◌ {A = ℕ} 0 1 = cc in absurd (omega arith)
+sound_by None w rest s e f h = absurd (none-some s h)
 
 pub sound : (cs : List ℕ) (s : Statement) → statement cs ≡ Some s → Spells cs s
 unfolding statement

@@ -1,5 +1,5 @@
 -- What a line of a test house says.
-use Rattle.std.specs.Prelude.{◌≡◌, ℕ, ◌<◌, Bool, true, cond, ◌&&◌, List, [], ◌∷◌, ◌++◌, map, length, drop, Some, None, vec_items, vec_len, codes, Option, ◌==◌, nat_lt}
+use Rattle.std.specs.Prelude.{◌≡◌, ℕ, ◌<◌, Bool, true, cond, ◌&&◌, List, [], ◌∷◌, ◌++◌, map, length, drop, Some, None, vec_items, codes, Option, ◌==◌, nat_lt}
 use Rattle.std.specs.List.{list_all}
 use Rattle.std.specs.Option.{option_map}
 use Rattle.std.specs.Str.{bytes_eq}
@@ -62,14 +62,14 @@ said (Places count) = places count
 said (said_as.Call c) = call (asked c)
 
 -- how many bytes or codes it adds
-abbrev pub added : HouseLine → ℕ
-added Skipped = 0
-added (Area bytes) = vec_len bytes
-added (Meter row) = 0
-added (Fault codes) = vec_len codes
-added (Retry limit) = 0
-added (Places count) = 0
-added (said_as.Call c) = 0
+abbrev pub added : Statement → ℕ
+added skipped = 0
+added (area bytes) = length bytes
+added (meter m) = 0
+added (fault codes) = length codes
+added (retry limit) = 0
+added (places count) = 0
+added (call c) = 0
 
 -- a text, without its line's end, spells a statement
 pub data Spells : List ℕ → Statement → Type 0 where

@@ -50,13 +50,12 @@ impl Field for Body {
 }
 
 // Adds the values that words spell to an empty vector that has room for them.
-pub(crate) fn read_all<F: Field + Drop>(words: Words, items: Vec<F>) -> Option<Vec<F>>
+pub(crate) fn read_all<F: Field + Drop>(words: Words, mut items: Vec<F>) -> Option<Vec<F>>
     requires room { length (words_of words.text.now) ≤ vec_capacity items }
     requires empty { vec_len items ≡ 0 }
     ensures values { MatchOption result (list_all F.fits (words_of words.entry.text.now) ≡ false) (λ v. (list_all F.fits (words_of words.entry.text.now) ≡ true) × (v.items ≡ map F.value (words_of words.entry.text.now))) }
     ensures few { IfSome result (λ v. vec_len v ≤ length (words_of words.entry.text.now)) }
 {
-    let mut items = items;
     for word in words {
         items.push_reserved(F::read(word)?);
     }

@@ -1,16 +1,15 @@
 // One line of a test house.
-ghost use Rattle.std.specs.Prelude.{◌≡◌, ◌≤◌, length, IfSome};
+ghost use Rattle.std.specs.Prelude.{◌≡◌};
 ghost use Rattle.std.specs.Option.{option_map};
 ghost use Rattle.input.specs.Lines.{content};
-ghost use Rattle.house.specs.Lines.{added, area_in, asked, by_keyword, call_in, fault_in, meter_in, number_in, pick_in, said, statement};
-ghost use Rattle.house.specs.Memory.{IsRoomFor};
+ghost use Rattle.house.specs.Lines.{area_in, asked, by_keyword, call_in, fault_in, meter_in, number_in, pick_in, said, statement};
 ghost use Rattle.house.specs.Words.{words as words_of};
 
 use crate::address::next_address;
 use crate::field::read_all;
 use crate::keyword::Keyword;
 use crate::number::{Digit, decimal_byte, pair};
-use crate::room::Room;
+use crate::source::Source;
 use crate::words::{Words, size_before};
 use bench::row::Row;
 use input::hex::read_pairs;
@@ -39,11 +38,10 @@ pub(crate) enum HouseLine {
 const MOST_PLACES: u8 = 250;
 
 #[tactic(auto, unfolding(crate::specs::Lines::area_in))]
-fn read_area(text: &[u8], room: Room) -> Option<HouseLine>
-    requires { IsRoomFor room (length text.now) }
-    ensures says { option_map said result ≡ area_in text.now }
-    ensures few { IfSome result (λ line. added line ≤ length text.now) }
+fn read_area(source: Source) -> Option<HouseLine>
+    ensures { option_map said result ≡ area_in source.entry.text.now }
 {
+    let Source { text, room } = source;
     let mut bytes = room.bytes;
     let _ = bytes.extend_from_slice(text);
     let size = read_pairs(bytes.as_mut_slice())?;
@@ -55,11 +53,10 @@ fn read_area(text: &[u8], room: Room) -> Option<HouseLine>
 }
 
 #[tactic(auto, using(crate::proofs::Scanning::few_words), unfolding(crate::specs::Lines::fault_in))]
-fn read_fault(text: &[u8], room: Room) -> Option<HouseLine>
-    requires { IsRoomFor room (length text.now) }
-    ensures says { option_map said result ≡ fault_in (words_of text.now) }
-    ensures few { IfSome result (λ line. added line ≤ length text.now) }
+fn read_fault(source: Source) -> Option<HouseLine>
+    ensures { option_map said result ≡ fault_in (words_of source.entry.text.now) }
 {
+    let Source { text, room } = source;
     let codes = read_all(Words { text }, room.bytes)?;
     if codes.is_empty() {
         return None;
@@ -80,12 +77,11 @@ fn read_number(text: &[u8], most: u8) -> Option<u8>
     decimal_byte(word, most)
 }
 
-#[tactic(auto, using(crate::proofs::Scanning::behind_four, crate::proofs::Scanning::few_words), unfolding(crate::specs::Lines::meter_in))]
-fn read_meter(text: &[u8], room: Room) -> Option<HouseLine>
-    requires { IsRoomFor room (length text.now) }
-    ensures says { option_map said result ≡ meter_in (words_of text.now) }
-    ensures few { IfSome result (λ line. added line ≤ length text.now) }
+#[tactic(auto, using(crate::proofs::Scanning::behind_four), unfolding(crate::specs::Lines::meter_in))]
+fn read_meter(source: Source) -> Option<HouseLine>
+    ensures { option_map said result ≡ meter_in (words_of source.entry.text.now) }
 {
+    let Source { text, room } = source;
     let mut words = Words { text };
     let address = next_address(&mut words)?;
     let primary = words.next()?;
@@ -102,18 +98,15 @@ fn read_meter(text: &[u8], room: Room) -> Option<HouseLine>
 
 // A call that has no words behind it.
 #[tactic(auto, using(crate::proofs::Scanning::no_words), unfolding(crate::specs::Lines::call_in))]
-fn read_call(words: Words, call: Call) -> Option<HouseLine>
-    ensures says { option_map said result ≡ call_in (asked call) (words_of words.entry.text.now) }
-    ensures few { IfSome result (λ line. added line ≡ 0) }
+fn read_call(mut words: Words, call: Call) -> Option<HouseLine>
+    ensures { option_map said result ≡ call_in (asked call) (words_of words.entry.text.now) }
 {
-    let mut words = words;
     words.next().is_none().then_some(HouseLine::Call(call))
 }
 
 #[tactic(auto, unfolding(crate::specs::Lines::pick_in))]
 fn read_pick(text: &[u8]) -> Option<HouseLine>
-    ensures says { option_map said result ≡ pick_in (words_of text.now) }
-    ensures few { IfSome result (λ line. added line ≡ 0) }
+    ensures { option_map said result ≡ pick_in (words_of text.now) }
 {
     let mut words = Words { text };
     let address = next_address(&mut words)?;
@@ -121,15 +114,14 @@ fn read_pick(text: &[u8]) -> Option<HouseLine>
 }
 
 // Reads what follows a keyword.
-fn read_values(keyword: Keyword, text: &[u8], room: Room) -> Option<HouseLine>
-    requires { IsRoomFor room (length text.now) }
-    ensures says { option_map said result ≡ by_keyword (Some keyword) text.now }
-    ensures few { IfSome result (λ line. added line ≤ length text.now) }
+fn read_values(keyword: Keyword, source: Source) -> Option<HouseLine>
+    ensures { option_map said result ≡ by_keyword (Some keyword) source.entry.text.now }
 {
+    let text = source.text;
     match keyword {
-        Keyword::Area => read_area(text, room),
-        Keyword::Meter => read_meter(text, room),
-        Keyword::Fault => read_fault(text, room),
+        Keyword::Area => read_area(source),
+        Keyword::Meter => read_meter(source),
+        Keyword::Fault => read_fault(source),
         Keyword::Retry => read_number(text, u8::MAX).map(HouseLine::Retry),
         Keyword::Places => read_number(text, MOST_PLACES).map(HouseLine::Places),
         Keyword::Search => read_call(Words { text }, Call::Search),
@@ -139,17 +131,17 @@ fn read_values(keyword: Keyword, text: &[u8], room: Room) -> Option<HouseLine>
     }
 }
 
-// Reads a line, given without its line feed, into memory for its values.
+// Reads a line, given without its line feed.
 #[tactic(auto, unfolding(crate::specs::Lines::statement))]
-pub(crate) fn read_line(line: &[u8], room: Room) -> Option<HouseLine>
-    requires { IsRoomFor room (length line.now) }
-    ensures says { option_map said result ≡ statement (content line.now) }
-    ensures few { IfSome result (λ said. added said ≤ length line.now) }
+pub(crate) fn read_line(line: Source) -> Option<HouseLine>
+    ensures { option_map said result ≡ statement (content line.entry.text.now) }
 {
-    let text = &line[..content_len(line)];
+    let Source { text, room } = line;
+    let text = &text[..content_len(text)];
     if is_skipped(text) {
         return Some(HouseLine::Skipped);
     }
     let (keyword, rest) = text.split_at(size_before(text, b' '));
-    read_values(Keyword::read(keyword)?, rest, room)
+    let values = Source { text: rest, room };
+    read_values(Keyword::read(keyword)?, values)
 }

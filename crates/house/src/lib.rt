@@ -10,4 +10,5 @@ mod keyword;
 mod number;
 pub mod pending;
 mod room;
+mod source;
 mod words;

@@ -32,6 +32,7 @@ impl Digit {
 }
 
 // The number that a word of decimal digits spells, if it is not above `most`.
+#[tactic(auto, using(crate::proofs::Counting::counted_all, crate::proofs::Counting::counted_more, crate::proofs::Counting::no_digit, crate::proofs::Counting::too_large))]
 pub(crate) fn decimal(word: &[u8], most: u16) -> Option<u16>
     ensures { result ≡ (if is_decimal most word.now then Some (decimal_value word.now) else None) }
 {

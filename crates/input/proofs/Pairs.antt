@@ -1,6 +1,7 @@
 -- Reading pairs of digits, one character at a time.
-use Rattle.std.proofs.Common.{◌≡◌, ℕ, ◌+◌, ◌-◌, ◌<◌, ◌≤◌, true, false, List, [], ◌∷◌, ◌++◌, length, get_or, take, drop, set, is_some, IfSome, IsSome, Some, None, Option, sym, refl, ap, ◌∙◌, subst, arith, length-set}
-use Rattle.std.proofs.lemmas.List.{append_assoc, append-nil, drop_all, drop-drop, drop_more, drop-set-lt, get_or-drop, take_more_set}
+use Rattle.std.proofs.Common.{◌≡◌, ℕ, ◌+◌, ◌-◌, ◌<◌, ◌≤◌, true, List, [], ◌∷◌, ◌++◌, length, get_or, take, drop, set, is_some, IfSome, IsSome, Some, None, Option, sym, refl, ap, ◌∙◌, subst, arith, length-set}
+use Rattle.std.proofs.lemmas.Bool.{true≢false}
+use Rattle.std.proofs.lemmas.List.{append_assoc, drop_all, drop-drop, drop_more, drop-set-lt, get_or-drop, take_more_set}
 use Rattle.input.specs.declared.hex.Step.{Step}
 use Rattle.input.specs.declared.hex.Step.TheVariants.{Open, Byte}
 use Rattle.input.specs.Hex.{Small, after_step, and_byte, bytes_from, is_hex, step_of}
@@ -66,16 +67,4 @@ module _ (text now : List ℕ) (i n : ℕ) (high : Option ℕ) (h : i < length t
   pub convert_some : is_hex text ≡ true → (s : Option Step) → s ≡ step_of high (get_or now i 0) → IsSome s
   convert_some y (Some s) e = refl
   convert_some y None e =
-      let k = seen None e in let z : true ≡ false = sym y ∙ ap is_some k in let q : ◌≡◌ {A = ℕ} 0 1 = cc in absurd (omega arith)
-
-pub convert_end : (text now : List ℕ) (i n : ℕ) (high : Option ℕ) → is_hex text ≡ true → length text ≤ i → Converted text now i n high → bytes_from text None ≡ Some (take n now)
-convert_end text now i n None y h was = was.bytes ∙ ap (behind (take n now)) (at_end text i None h) ∙ ap Some (append-nil (take n now))
-convert_end text now i n (Some d) y h was =
-    let k = was.bytes ∙ ap (behind (take n now)) (at_end text i (Some d) h) in
-    let z : true ≡ false = sym y ∙ ap is_some k in
-    let q : ◌≡◌ {A = ℕ} 0 1 = cc in
-    absurd (omega arith)
-
-pub all_left : (o : Option (List ℕ)) → o ≡ behind [] o
-all_left None = refl
-all_left (Some bs) = refl
+      absurd (true≢false (sym y ∙ ap is_some (seen None e)))

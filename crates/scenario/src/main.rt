@@ -151,10 +151,7 @@ fn make<O: Write>(out: &mut O, house: House) -> io::Result<()> {
         codes: bench.codes(),
         layers: limits.len(),
     };
-    let places = match places {
-        Some(count) => count as usize,
-        None => MOST_PLACES,
-    };
+    let places = places.map_or(MOST_PLACES, usize::from);
     let plan = Plan {
         sizes,
         calls: calls.as_slice(),

@@ -2,13 +2,14 @@
 ghost use Rattle.std.specs.Prelude.{◌≡◌, length, is_some, IfOk, MatchOption};
 ghost use Rattle.house.specs.Houses.{Adds, RefusesLine, TakesLine, no_parts, parts_of};
 ghost use Rattle.house.specs.Lines.{added, said};
-ghost use Rattle.house.specs.Memory.{IsRoomFor, TakesMore};
+ghost use Rattle.house.specs.Memory.{TakesMore};
 ghost use Rattle.house.specs.Taking.{Accepts};
 
 use super::Pending;
 use crate::house::{House, Unreadable};
 use crate::house_line::{HouseLine, read_line};
 use crate::room::Room;
+use crate::source::Source;
 use std::alloc::{AllocError, Global};
 
 const MOST_LAYERS: usize = 3;
@@ -29,27 +30,30 @@ impl House {
     }
 
     // Gets the memory for all that a line, given without its line feed, can add.
-    pub fn prepare(self, heap: Global, line: Vec<u8>) -> Result<Pending, AllocError>
+    pub fn prepare(mut self, heap: Global, line: Vec<u8>) -> Result<Pending, AllocError>
         ensures house { IfOk result (λ p. parts_of p.house ≡ parts_of self) }
         ensures line { IfOk result (λ p. p.line.items ≡ line.items) }
     {
-        let mut house = self;
         let size = line.len();
-        house.rows.reserve(1)?;
-        house.area.reserve(size)?;
-        house.codes.reserve(size)?;
-        house.limits.reserve(1)?;
-        house.calls.reserve(1)?;
+        self.rows.reserve(1)?;
+        self.area.reserve(size)?;
+        self.codes.reserve(size)?;
+        self.limits.reserve(1)?;
+        self.calls.reserve(1)?;
         let room = Room {
             bytes: Vec::with_capacity(heap, size)?,
             bodies: Vec::with_capacity(heap, size)?,
         };
-        Ok(Pending { house, line, room })
+        Ok(Pending {
+            house: self,
+            line,
+            room,
+        })
     }
 
     // Adds what a line says, if the house takes it.
     fn take(&mut self, line: HouseLine) -> Option<()>
-        requires { TakesMore self.old (added line) }
+        requires { TakesMore self.old (added (said line)) }
         ensures { Accepts (parts_of self.old) (said line) (is_some result) (parts_of self.new) }
     {
         match line {
@@ -80,12 +84,12 @@ impl House {
 
     // Adds what a line, given without its line feed, says. Nothing is added by a line that says nothing which the
     // house takes.
-    fn read(&mut self, line: &[u8], room: Room) -> Option<()>
-        requires room { IsRoomFor room (length line.now) }
-        requires memory { TakesMore self.old (length line.now) }
-        ensures { MatchOption result (RefusesLine (parts_of self.old) line.now (parts_of self.new)) (λ taken. TakesLine (parts_of self.old) line.now (parts_of self.new)) }
+    #[tactic(auto, using(crate::proofs::Adding::few_said, crate::proofs::Adding::takes_less, crate::proofs::Adding::unsaid_line))]
+    fn read(&mut self, line: Source) -> Option<()>
+        requires { TakesMore self.old (length line.text.now) }
+        ensures { MatchOption result (RefusesLine (parts_of self.old) line.entry.text.now (parts_of self.new)) (λ taken. TakesLine (parts_of self.old) line.entry.text.now (parts_of self.new)) }
     {
-        self.take(read_line(line, room)?)
+        self.take(read_line(line)?)
     }
 }
 
@@ -99,7 +103,11 @@ impl Pending {
             line,
             room,
         } = self;
-        match house.read(line.as_slice(), room) {
+        let source = Source {
+            text: line.as_slice(),
+            room,
+        };
+        match house.read(source) {
             Some(()) => Ok(house),
             None => Err(Unreadable { house }),
         }
