@@ -1,9 +1,10 @@
 -- Reading a number digit by digit.
-use Rattle.std.proofs.Common.{◌≡◌, ℕ, ◌+◌, ◌<◌, ◌≤◌, true, false, cond, ltb, List, [], ◌∷◌, length, get_or, drop, Some, None, fold, sym, refl, ap, ◌∙◌, arith}
+use Rattle.std.proofs.Common.{◌≡◌, ℕ, ◌+◌, ◌<◌, ◌≤◌, Bool, true, false, cond, ◌&&◌, leb, ltb, List, [], ◌∷◌, length, get_or, drop, Some, None, Option, fold, sym, refl, ap, ◌∙◌, arith}
+use Rattle.std.specs.Bool.{then_some}
+use Rattle.std.specs.List.{list_all}
 use Rattle.std.proofs.lemmas.List.{at_drop_all, at_drop_more}
-use Rattle.std.proofs.lemmas.Bool.{and_from, and_left, and_right, cond-false, cond-true, le-leb, lt-leb, lt-ltb}
-use Rattle.bench.specs.Rows.{each}
-use Rattle.bench.proofs.Listing.{each_end, each_no, each_yes}
+use Rattle.std.proofs.lemmas.List.Folds.{list_all_at}
+use Rattle.std.proofs.lemmas.Bool.{and_left, and_right, cond-false, lt-leb, lt-ltb}
 use Rattle.house.specs.Numbers.{decimal_digit, decimal_value, is_decimal, next_digit}
 
 -- more digits make no number smaller
@@ -12,40 +13,47 @@ grows a [] = omega arith
 grows a (c ∷ w) = omega (arith, grows (next_digit a c) w)
 
 -- the reading of a word up to a place: the digits so far, and their number
-pub record Counted (w : List ℕ) (most i value : ℕ) : Type 0 where
-  pub digits : each decimal_digit (drop i w) ≡ each decimal_digit w
+pub record Counted (w : List ℕ) (i value : ℕ) : Type 0 where
+  pub digits : list_all decimal_digit (drop i w) ≡ list_all decimal_digit w
   pub number : fold next_digit value (drop i w) ≡ decimal_value w
-  pub small : value ≤ most
 
-pub counted_none : (w : List ℕ) (most : ℕ) → Counted w most 0 0
-counted_none w most = record { digits = refl; number = refl; small = omega arith }
+abbrev number : ℕ → List ℕ → Option ℕ
+number most w = cond (is_decimal most w) (Some (decimal_value w)) None
 
-refuses : (w : List ℕ) (most : ℕ) → is_decimal most w ≡ false → None ≡ cond (is_decimal most w) (Some (decimal_value w)) None
+refuses : (w : List ℕ) (most : ℕ) → is_decimal most w ≡ false → None ≡ number most w
 refuses w most e = sym (cond-false (is_decimal most w) _ _ e)
 
-module _ (w : List ℕ) (most i value : ℕ) (h : i < length w) (was : Counted w most i value) where
-  pub no_digit : decimal_digit (get_or w i 0) ≡ false → None ≡ cond (is_decimal most w) (Some (decimal_value w)) None
-  no_digit e =
-      refuses w most
-      (and_right (ltb 0 (length w)) _ (and_left (each decimal_digit w) _ (sym was.digits ∙ each_no decimal_digit w i 0 h e)))
+module _ (w : List ℕ) (i : ℕ) (h : i < length w) where
+  pub no_digit : (most : ℕ) → decimal_digit (get_or w i 0) ≡ false → None ≡ number most w
+  no_digit most e =
+      refuses w most (and_right (ltb 0 (length w)) _ (and_left (list_all decimal_digit w) _ (list_all_at decimal_digit w i 0 h e)))
 
-  further : fold next_digit (next_digit value (get_or w i 0)) (drop (i + 1) w) ≡ decimal_value w
-  further = sym (at_drop_more (fold next_digit value) w i 0 h) ∙ was.number
+  module _ (value : ℕ) (was : Counted w i value) where
+    further : fold next_digit (next_digit value (get_or w i 0)) (drop (i + 1) w) ≡ decimal_value w
+    further = sym (at_drop_more (fold next_digit value) w i 0 h) ∙ was.number
 
-  pub too_large : most < next_digit value (get_or w i 0) → None ≡ cond (is_decimal most w) (Some (decimal_value w)) None
-  too_large l =
-      let g = grows (next_digit value (get_or w i 0)) (drop (i + 1) w) in
-      refuses w most
-      (and_right (ltb 0 (length w)) _ (and_right (each decimal_digit w) _ (lt-leb (decimal_value w) most (omega (arith, g, further)))))
+    pub too_large : (most : ℕ) → most < next_digit value (get_or w i 0) → None ≡ number most w
+    too_large most l =
+        let g = grows (next_digit value (get_or w i 0)) (drop (i + 1) w) in
+        refuses w most
+        (and_right (ltb 0 (length w)) _ (and_right (list_all decimal_digit w) _ (lt-leb (decimal_value w) most (omega (arith, g, further)))))
 
-  pub counted_more : (next : ℕ) → next ≡ next_digit value (get_or w i 0) → decimal_digit (get_or w i 0) ≡ true → next ≤ most → Counted w most (i + 1) next
-  counted_more next e d l =
-      rw e
-      (record { digits = each_yes decimal_digit w i 0 h d ∙ was.digits; number = further; small = omega arith })
+    pub counted_more : (next : ℕ) → next ≡ next_digit value (get_or w i 0) → decimal_digit (get_or w i 0) ≡ true → Counted w (i + 1) next
+    counted_more next e d =
+        rw e
+        (record {
+          digits = sym (at_drop_more (list_all decimal_digit) w i 0 h ∙ ap (λ b. b && list_all decimal_digit (drop (i + 1) w)) d) ∙ was.digits;
+          number = further;
+        })
 
-pub counted_all : (w : List ℕ) (most i value : ℕ) → 0 < length w → length w ≤ i → Counted w most i value → Some value ≡ cond (is_decimal most w) (Some (decimal_value w)) None
+chosen : (b : Bool) (v : ℕ) → then_some b v ≡ cond b (Some v) None
+chosen true v = refl
+chosen false v = refl
+
+pub counted_all : (w : List ℕ) (most i value : ℕ) → 0 < length w → length w ≤ i → Counted w i value → then_some (leb value most) value ≡ number most w
 counted_all w most i value some h was =
     let v : value ≡ decimal_value w = sym (at_drop_all (fold next_digit value) w i h) ∙ was.number in
-    let d : each decimal_digit w ≡ true = sym was.digits ∙ each_end decimal_digit w i h in
-    let t : is_decimal most w ≡ true = and_from (ltb 0 (length w)) _ (lt-ltb 0 (length w) some) (and_from (each decimal_digit w) _ d (le-leb (decimal_value w) most (omega (arith, v, was.small)))) in
-    ap Some v ∙ sym (cond-true (is_decimal most w) _ _ t)
+    let d : true ≡ list_all decimal_digit w = sym (at_drop_all (list_all decimal_digit) w i h) ∙ was.digits in
+    chosen (leb value most) value ∙ ap (λ n. cond (leb n most) (Some n) None) v
+    ∙ ap (λ b. cond (b && leb (decimal_value w) most) (Some (decimal_value w)) None) d
+    ∙ ap (λ b. cond (b && (list_all decimal_digit w && leb (decimal_value w) most)) (Some (decimal_value w)) None) (sym (lt-ltb 0 (length w) some))

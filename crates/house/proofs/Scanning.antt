@@ -1,81 +1,51 @@
 -- Looking for the ends of words.
-use Rattle.std.proofs.Common.{◌≡◌, ℕ, ◌+◌, ◌<◌, ◌≤◌, eqb, List, [], ◌∷◌, ◌++◌, length, get_or, take, drop, sym, refl, ap, ◌∙◌, subst, ⊎_elim, arith}
-use Rattle.std.proofs.lemmas.List.{append_assoc, append-nil, at_drop_all, at_drop_more, drop_all, drop_more, length-drop, length-take-le, take_all, take_more}
-use Rattle.std.proofs.lemmas.Bool.{cases_eq, cond-false, cond-true, eq-eqb, ne_eqb}
+use Rattle.std.proofs.Common.{◌≡◌, ℕ, ◌+◌, ◌<◌, ◌≤◌, Bool, true, false, cond, not, suc, eqb, List, [], ◌∷◌, length, get_or, take, drop, Some, None, Option, MatchOption, unwrap_or, ltb, sym, refl, ap, ◌∙◌, subst, ⊎_elim, arith}
+use Rattle.std.proofs.lemmas.List.{drop-drop, get_or-drop, length-drop, length-take-le, nil_from_length}
+use Rattle.std.proofs.lemmas.Bool.{cases_eq, cond_both, cond-false, eqb-false, eqb-true, ltb-false, ne_eqb}
+use Rattle.std.specs.Bool.{then_some}
+use Rattle.std.specs.List.{AllByRecursion, position, position_or_len}
+use Rattle.std.proofs.lemmas.List.Sums.{prefix_len-le-length}
 use Rattle.house.specs.Words.{after, before, later_words, and_word, words}
 
--- no such byte stands before the place i
-pub record Passed (end : ℕ) (cs : List ℕ) (i : ℕ) : Type 0 where
-  pub front : before end cs ≡ take i cs ++ before end (drop i cs)
-  pub back : after end cs ≡ after end (drop i cs)
+-- the place of the first that passes, or the length
+by_place : (n size : ℕ) → n ≤ size → unwrap_or (cond (ltb n size) (Some n) None) size ≡ n
+by_place n size h =
+    cond_both (ltb n size) (Some n) None (λ o. unwrap_or o size ≡ n) (λ _. refl)
+    (λ e. let l : size ≤ n = ltb-false n size e in omega arith)
 
-pub passed_none : (end : ℕ) (cs : List ℕ) → Passed end cs 0
-passed_none end cs = record { front = refl; back = refl }
+pub place_or_len : (p : ℕ → Bool) (xs : List ℕ) (r : Option ℕ) (i : ℕ) → r ≡ position p xs → i ≡ unwrap_or r (length xs) → i ≡ position_or_len p xs
+place_or_len p xs r i e u =
+    u ∙ ap (λ o. unwrap_or o (length xs)) e ∙ by_place (position_or_len p xs) (length xs) (prefix_len-le-length (λ x. not (p x)) xs)
 
--- where the byte is, or the end of the text
-pub record Ends (end : ℕ) (cs : List ℕ) (i : ℕ) : Type 0 where
-  pub front : take i cs ≡ before end cs
-  pub back : drop (i + 1) cs ≡ after end cs
-  pub within : i ≤ length cs
+-- what stands before and after the first such byte, by its place
+front_by : (b : Bool) (c n : ℕ) (cs : List ℕ) → take (cond (not b) (1 + n) 0) (c ∷ cs) ≡ cond b [] (c ∷ take n cs)
+front_by true c n cs = refl
+front_by false c n cs = let one : suc n ≡ 1 + n = omega arith in ap (λ m. take m (c ∷ cs)) (sym one)
 
-module _ (end : ℕ) (cs : List ℕ) (i : ℕ) (h : i < length cs) (was : Passed end cs i) where
-  pub passed_more : (get_or cs i 0 ≡ end → ⊥) → Passed end cs (i + 1)
-  passed_more n =
-      let e = ne_eqb (get_or cs i 0) end n in
-      let f : before end (drop i cs) ≡ get_or cs i 0 ∷ before end (drop (i + 1) cs) = at_drop_more (before end) cs i 0 h ∙ cond-false (eqb (get_or cs i 0) end) _ _ e in
-      record {
-        front = was.front ∙ ap (λ xs. take i cs ++ xs) f ∙ sym (append_assoc (take i cs) (get_or cs i 0 ∷ []) (before end (drop (i + 1) cs))) ∙ ap (λ xs. xs ++ before end (drop (i + 1) cs)) (sym (take_more cs i 0 h));
-        back = was.back ∙ at_drop_more (after end) cs i 0 h ∙ cond-false (eqb (get_or cs i 0) end) _ _ e;
-      }
+pub front_is : (end : ℕ) (cs : List ℕ) → take (position_or_len (λ c. eqb c end) cs) cs ≡ before end cs
+front_is end [] = refl
+front_is end (c ∷ cs) =
+    front_by (eqb c end) c (position_or_len (λ x. eqb x end) cs) cs ∙ ap (λ w. cond (eqb c end) [] (c ∷ w)) (front_is end cs)
 
-  pub ends_here : get_or cs i 0 ≡ end → Ends end cs i
-  ends_here q =
-      let e = eq-eqb (get_or cs i 0) end q in
-      record {
-        front = sym (was.front ∙ ap (λ xs. take i cs ++ xs) (at_drop_more (before end) cs i 0 h ∙ cond-true (eqb (get_or cs i 0) end) _ _ e) ∙ append-nil (take i cs));
-        back = sym (was.back ∙ at_drop_more (after end) cs i 0 h ∙ cond-true (eqb (get_or cs i 0) end) _ _ e);
-        within = omega arith;
-      }
+back_by : (b : Bool) (c n : ℕ) (cs : List ℕ) → drop (cond (not b) (1 + n) 0 + 1) (c ∷ cs) ≡ cond b cs (drop (n + 1) cs)
+back_by true c n cs = refl
+back_by false c n cs = let one : suc (n + 1) ≡ 1 + n + 1 = omega arith in ap (λ m. drop m (c ∷ cs)) (sym one)
 
-pub ends_nowhere : (end : ℕ) (cs : List ℕ) (i : ℕ) → length cs ≤ i → Passed end cs i → Ends end cs (length cs)
-ends_nowhere end cs i h was =
-    record {
-      front = take_all (length cs) cs (omega arith) ∙ sym (take_all i cs h) ∙ sym (append-nil (take i cs)) ∙ ap (λ xs. take i cs ++ xs) (sym (at_drop_all (before end) cs i h)) ∙ sym was.front;
-      back = drop_all (length cs + 1) cs (omega arith) ∙ sym (was.back ∙ at_drop_all (after end) cs i h);
-      within = omega arith;
-    }
+pub back_is : (end : ℕ) (cs : List ℕ) → drop (position_or_len (λ c. eqb c end) cs + 1) cs ≡ after end cs
+back_is end [] = refl
+back_is end (c ∷ cs) =
+    back_by (eqb c end) c (position_or_len (λ x. eqb x end) cs) cs ∙ ap (cond (eqb c end) cs) (back_is end cs)
 
 -- spaces in front are no part of a word
-pub words_more : (cs : List ℕ) (i : ℕ) → i < length cs → get_or cs i 0 ≡ 0x20 → words (drop i cs) ≡ words cs → words (drop (i + 1) cs) ≡ words cs
-words_more cs i h q was = sym (at_drop_more words cs i 0 h ∙ ap (λ c. words (c ∷ drop (i + 1) cs)) q) ∙ was
+kept_by : (b : Bool) (c n : ℕ) (cs : List ℕ) → eqb c 0x20 ≡ b → words (drop n cs) ≡ words cs → words (drop (cond (not (not b)) (1 + n) 0) (c ∷ cs)) ≡ words (c ∷ cs)
+kept_by true c n cs e h =
+    let one : suc n ≡ 1 + n = omega arith in
+    ap (λ m. words (drop m (c ∷ cs))) (sym one) ∙ h ∙ ap (λ x. words (x ∷ cs)) (sym (eqb-true c 0x20 e))
+kept_by false c n cs e h = refl
 
--- a text without its spaces in front
-pub record Skipped (cs part : List ℕ) : Type 0 where
-  pub same : words part ≡ words cs
-  pub word : before 0x20 part ≡ [] → part ≡ []
-  pub within : length part ≤ length cs
-
-first_kept : (c : ℕ) (cs : List ℕ) → (c ≡ 0x20 → ⊥) → before 0x20 (c ∷ cs) ≡ [] → c ∷ cs ≡ []
-first_kept c cs n e =
-    let f : c ∷ before 0x20 cs ≡ [] = sym (cond-false (eqb c 0x20) [] (c ∷ before 0x20 cs) (ne_eqb c 0x20 n)) ∙ e in
-    let z : ◌≡◌ {A = ℕ} 0 1 = cc in
-    absurd (omega arith)
-
-module _ (cs part : List ℕ) (i : ℕ) (e : part ≡ drop i cs) (was : words (drop i cs) ≡ words cs) where
-  shorter : length part ≤ length cs
-  shorter = omega (arith, ap length e, length-drop i cs)
-
-  pub skipped_here : i < length cs → (get_or cs i 0 ≡ 0x20 → ⊥) → Skipped cs part
-  skipped_here h n =
-      let d = e ∙ drop_more cs i 0 h in
-      record {
-        same = ap words e ∙ was;
-        word = λ b. d ∙ first_kept (get_or cs i 0) (drop (i + 1) cs) n (ap (before 0x20) (sym d) ∙ b);
-        within = shorter;
-      }
-
-  pub skipped_all : length cs ≤ i → Skipped cs part
-  skipped_all h = record { same = ap words e ∙ was; word = λ _. e ∙ drop_all i cs h; within = shorter }
+pub kept : (cs : List ℕ) → words (drop (position_or_len (λ c. not (eqb c 0x20)) cs) cs) ≡ words cs
+kept [] = refl
+kept (c ∷ cs) = kept_by (eqb c 0x20) c (position_or_len (λ x. not (eqb x 0x20)) cs) cs refl (kept cs)
 
 -- the words behind the first
 pub rest_words : (cs : List ℕ) → words (drop (length (before 0x20 cs)) cs) ≡ later_words cs
@@ -91,27 +61,79 @@ rest_words (c ∷ cs) =
     ∙ sym (cond-false (eqb c 0x20) (and_word (before 0x20 cs) (later_words cs)) (later_words cs) e))
     (cases_eq c 0x20)
 
+-- a word and what is left behind it
 pub record Parted (cs front back : List ℕ) : Type 0 where
-  pub word : front ≡ get_or (words cs) 0 []
-  pub rest : words back ≡ drop 1 (words cs)
+  pub word : front ≡ before 0x20 cs
+  pub rest : words back ≡ later_words cs
 
-parted_by : (cs : List ℕ) (b : List ℕ) → before 0x20 cs ≡ b → (b ≡ [] → cs ≡ []) → Parted cs b (drop (length b) cs)
-parted_by [] b e f =
-    let P : List ℕ → Type 0 = λ x. Parted [] x (drop (length x) []) in
-    subst P e (record { word = refl; rest = refl })
-parted_by (c ∷ cs) [] e f = let g = f refl in let z : ◌≡◌ {A = ℕ} 0 1 = cc in absurd (omega arith)
-parted_by (c ∷ cs) (x ∷ w) e f =
-    let k : words (c ∷ cs) ≡ (x ∷ w) ∷ later_words (c ∷ cs) = ap (λ v. and_word v (later_words (c ∷ cs))) e in
-    record {
-      word = sym (ap (λ ws. get_or ws 0 []) k);
-      rest = ap (λ v. words (drop (length v) (c ∷ cs))) (sym e) ∙ rest_words (c ∷ cs) ∙ sym (ap (drop 1) k);
-    }
-
-pub parted : (cs front back : List ℕ) (n : ℕ) → (before 0x20 cs ≡ [] → cs ≡ []) → n ≤ length cs → take n cs ≡ before 0x20 cs → front ≡ take n cs → back ≡ drop n cs → Parted cs front back
-parted cs front back n some h t f b =
+pub parted : (cs front back : List ℕ) (n : ℕ) → n ≤ length cs → take n cs ≡ before 0x20 cs → front ≡ take n cs → back ≡ drop n cs → Parted cs front back
+parted cs front back n h t f b =
     let size : n ≡ length (before 0x20 cs) = sym (length-take-le n cs h) ∙ ap length t in
-    let k = parted_by cs (before 0x20 cs) refl some in
-    record {
-      word = f ∙ t ∙ k.word;
-      rest = ap words (b ∙ ap (λ m. drop m cs) size) ∙ k.rest;
-    }
+    record { word = f ∙ t; rest = ap words (b ∙ ap (λ m. drop m cs) size) ∙ rest_words cs }
+
+pub some_word : (w : List ℕ) (ws : List (List ℕ)) → 0 < length w → and_word w ws ≡ w ∷ ws
+some_word [] ws h = absurd (omega arith)
+some_word (c ∷ w) ws h = refl
+
+module _ (text cs front back : List ℕ) (p : Parted cs front back) (same : words cs ≡ words text) where
+  no_first : (before 0x20 cs ≡ [] → cs ≡ []) → length front ≡ 0 → words text ≡ []
+  no_first word h = sym same ∙ ap words (word (sym p.word ∙ nil_from_length front h))
+
+  first : 0 < length front → words text ≡ front ∷ words back
+  first h =
+      sym same ∙ ap (λ w. and_word w (later_words cs)) (sym p.word) ∙ some_word front (later_words cs) h ∙ ap (λ ws. front ∷ ws) (sym p.rest)
+
+  pub split_by : {A : Type 0} (o : Option A) (v : A) (P : A → Type 0) (b : Bool) → o ≡ then_some (not b) v → b ≡ eqb (length front) 0 → (before 0x20 cs ≡ [] → cs ≡ []) → (words text ≡ front ∷ words back → P v) → MatchOption o (words text ≡ []) P
+  split_by {A = A} o v P true e z word f =
+      let Q : Option A → Type 0 = λ x. MatchOption x (words text ≡ []) P in
+      subst Q (sym e) (no_first word (eqb-true (length front) 0 (sym z)))
+  split_by {A = A} o v P false e z word f =
+      let Q : Option A → Type 0 = λ x. MatchOption x (words text ≡ []) P in
+      subst Q (sym e) (f (first (let n = eqb-false (length front) 0 (sym z) in omega arith)))
+
+-- no word is empty
+all_and_word : (w : List ℕ) (ws : List (List ℕ)) → AllByRecursion (λ v. 0 < length v) ws → AllByRecursion (λ v. 0 < length v) (and_word w ws)
+all_and_word [] ws a = a
+all_and_word (c ∷ w) ws a = (omega arith, a)
+
+all_later : (cs : List ℕ) → AllByRecursion (λ v. 0 < length v) (later_words cs)
+all_later [] = tt
+all_later (c ∷ cs) =
+    cond_both (eqb c 0x20) (and_word (before 0x20 cs) (later_words cs)) (later_words cs) (AllByRecursion (λ v. 0 < length v))
+    (λ _. all_and_word (before 0x20 cs) (later_words cs) (all_later cs)) (λ _. all_later cs)
+
+pub all_words : (cs : List ℕ) → AllByRecursion (λ v. 0 < length v) (words cs)
+all_words cs = all_and_word (before 0x20 cs) (later_words cs) (all_later cs)
+
+first_of : (ws : List (List ℕ)) → AllByRecursion (λ v. 0 < length v) ws → length (get_or ws 0 []) ≡ 0 → ws ≡ []
+first_of [] a h = refl
+first_of (w ∷ ws) a h = absurd (omega (arith, a.0))
+
+pub no_words : (cs : List ℕ) → length (get_or (words cs) 0 []) ≡ 0 → words cs ≡ []
+no_words cs = first_of (words cs) (all_words cs)
+
+-- and there are no more words than bytes
+few_and_word : (w : List ℕ) (ws : List (List ℕ)) → length (and_word w ws) ≤ length w + length ws
+few_and_word [] ws = omega arith
+few_and_word (c ∷ w) ws = omega arith
+
+few_by : (b : Bool) (c : ℕ) (front cs : List ℕ) (more ws : List (List ℕ)) → length front + length ws ≤ length cs → length more ≤ length front + length ws → length (cond b [] (c ∷ front)) + length (cond b more ws) ≤ length (c ∷ cs)
+few_by true c front cs more ws h k = omega arith
+few_by false c front cs more ws h k = omega arith
+
+few_both : (cs : List ℕ) → length (before 0x20 cs) + length (later_words cs) ≤ length cs
+few_both [] = omega arith
+few_both (c ∷ cs) =
+    few_by (eqb c 0x20) c (before 0x20 cs) cs (and_word (before 0x20 cs) (later_words cs)) (later_words cs) (few_both cs) (few_and_word (before 0x20 cs) (later_words cs))
+
+pub few_words : (cs : List ℕ) → length (words cs) ≤ length cs
+few_words cs = omega (arith, few_and_word (before 0x20 cs) (later_words cs), few_both cs)
+
+-- what stands behind four words
+pub behind_four : (ws : List (List ℕ)) → (get_or ws 4 [] ≡ get_or (drop 4 ws) 0 []) × (drop 5 ws ≡ drop 1 (drop 4 ws))
+behind_four ws = (sym (get_or-drop 4 ws 0 []), sym (drop-drop 1 4 ws))
+
+pub few_behind : (cs : List ℕ) (left : List (List ℕ)) (w : List ℕ) (rest : List (List ℕ)) → left ≡ drop 4 (words cs) → left ≡ w ∷ rest → length rest ≤ length cs
+few_behind cs left w rest d e =
+    let l : length left ≡ suc (length rest) = ap length e in
+    omega (arith, few_words cs, length-drop 4 (words cs), ap length d, l)

@@ -42,12 +42,12 @@ takes p (call c) = true
 -- what a statement adds stands behind what was there
 abbrev pub with_statement : Parts → Statement → Parts
 with_statement p skipped = p
-with_statement p (area bytes) = record { meters = p.meters; area_bytes = p.area_bytes ++ bytes; fault_codes = p.fault_codes; limits = p.limits; places_given = p.places_given; calls = p.calls }
-with_statement p (meter m) = record { meters = p.meters ++ m ∷ []; area_bytes = p.area_bytes; fault_codes = p.fault_codes; limits = p.limits; places_given = p.places_given; calls = p.calls }
-with_statement p (fault codes) = record { meters = p.meters; area_bytes = p.area_bytes; fault_codes = p.fault_codes ++ codes; limits = p.limits; places_given = p.places_given; calls = p.calls }
-with_statement p (retry limit) = record { meters = p.meters; area_bytes = p.area_bytes; fault_codes = p.fault_codes; limits = p.limits ++ limit ∷ []; places_given = p.places_given; calls = p.calls }
-with_statement p (places count) = record { meters = p.meters; area_bytes = p.area_bytes; fault_codes = p.fault_codes; limits = p.limits; places_given = Some count; calls = p.calls }
-with_statement p (call c) = record { meters = p.meters; area_bytes = p.area_bytes; fault_codes = p.fault_codes; limits = p.limits; places_given = p.places_given; calls = p.calls ++ c ∷ [] }
+with_statement p (area bytes) = record p { area_bytes = p.area_bytes ++ bytes }
+with_statement p (meter m) = record p { meters = p.meters ++ m ∷ [] }
+with_statement p (fault codes) = record p { fault_codes = p.fault_codes ++ codes }
+with_statement p (retry limit) = record p { limits = p.limits ++ limit ∷ [] }
+with_statement p (places count) = record p { places_given = Some count }
+with_statement p (call c) = record p { calls = p.calls ++ c ∷ [] }
 
 -- a readable line spells one statement, which the house takes and which is all that is added
 pub record TakesLine (before : Parts) (line : List ℕ) (after : Parts) : Type 0 where

@@ -4,3 +4,4 @@ pub mod Fields
 pub mod Lines
 pub mod Houses
 pub mod Taking
+pub mod Memory

@@ -1,12 +1,12 @@
 // Values that a line has several of, a word for each.
 ghost use Rattle.std.specs.Prelude.{◌≡◌, ℕ, ◌+◌, ◌≤◌, Bool, true, false, List, map, length, IfSome, if◌then◌else◌, Some, None, vec_len, vec_capacity, MatchOption};
-ghost use Rattle.bench.specs.Rows.{each};
+ghost use Rattle.std.specs.List.{list_all};
 ghost use Rattle.house.specs.Fields.{body_of, is_body, is_code};
 ghost use Rattle.house.specs.Numbers.{decimal_value};
 ghost use Rattle.house.specs.Words.{words as words_of};
 
-use crate::number::decimal;
-use crate::words::{next_word, size_before};
+use crate::number::{decimal, decimal_byte};
+use crate::words::{Words, size_before};
 use bench::row::Body;
 
 // A value that one word spells.
@@ -20,10 +20,6 @@ pub(crate) trait Field: Sized {
         ensures { result ≡ (if fits word.now then Some (value word.now) else None) };
 }
 
-const LAST_CODE: u16 = 255;
-
-const LAST_PLACE: u16 = 65_535;
-
 // A fault code, in decimal.
 impl Field for u8 {
     ghost fits = { is_code };
@@ -31,10 +27,7 @@ impl Field for u8 {
     ghost value = { decimal_value };
 
     fn read(word: &[u8]) -> Option<u8> {
-        match decimal(word, LAST_CODE) {
-            Some(code) => Some(code as u8),
-            None => None,
-        }
+        decimal_byte(word, u8::MAX)
     }
 }
 
@@ -49,34 +42,22 @@ impl Field for Body {
         if size >= word.len() {
             return None;
         }
-        let Some(start) = decimal(&word[0..size], LAST_PLACE) else {
-            return None;
-        };
-        let Some(length) = decimal(&word[size + 1..], LAST_PLACE) else {
-            return None;
-        };
-        Some(Body { start, length })
+        Some(Body {
+            start: decimal(&word[..size], u16::MAX)?,
+            length: decimal(&word[size + 1..], u16::MAX)?,
+        })
     }
 }
 
-// Adds the values that the words of a text spell to a vector that has room for them.
-pub(crate) fn read_all<F: Field + Drop>(text: &[u8], items: Vec<F>) -> Option<Vec<F>>
-    requires room { vec_len items + length text.now ≤ vec_capacity items }
+// Adds the values that words spell to an empty vector that has room for them.
+pub(crate) fn read_all<F: Field + Drop>(words: Words, mut items: Vec<F>) -> Option<Vec<F>>
+    requires room { length (words_of words.text.now) ≤ vec_capacity items }
     requires empty { vec_len items ≡ 0 }
-    ensures values { MatchOption result (each F.fits (words_of text.now) ≡ false) (λ v. (each F.fits (words_of text.now) ≡ true) × (v.items ≡ map F.value (words_of text.now))) }
-    ensures few { IfSome result (λ v. vec_len v ≤ length text.now) }
+    ensures values { MatchOption result (list_all F.fits (words_of words.entry.text.now) ≡ false) (λ v. (list_all F.fits (words_of words.entry.text.now) ≡ true) × (v.items ≡ map F.value (words_of words.entry.text.now))) }
+    ensures few { IfSome result (λ v. vec_len v ≤ length (words_of words.entry.text.now)) }
 {
-    let mut items = items;
-    let mut left = text;
-    loop {
-        let (word, rest) = next_word(left);
-        if word.is_empty() {
-            return Some(items);
-        }
-        let Some(item) = F::read(word) else {
-            return None;
-        };
-        items.push_reserved(item);
-        left = rest;
+    for word in words {
+        items.push_reserved(F::read(word)?);
     }
+    Some(items)
 }

@@ -9,4 +9,6 @@ mod house_line;
 mod keyword;
 mod number;
 pub mod pending;
+mod room;
+mod source;
 mod words;

@@ -27,16 +27,12 @@ impl Digit {
     pub(crate) fn spell(&self, word: &[u8], count: usize) -> bool
         ensures { result ≡ has_digits self.now count word.now }
     {
-        for c in word {
-            if !self.admits(*c) {
-                return false;
-            }
-        }
-        word.len() == count
+        word.iter().all(|c| self.admits(*c)) && word.len() == count
     }
 }
 
 // The number that a word of decimal digits spells, if it is not above `most`.
+#[tactic(auto, using(crate::proofs::Counting::counted_all, crate::proofs::Counting::counted_more, crate::proofs::Counting::no_digit, crate::proofs::Counting::too_large))]
 pub(crate) fn decimal(word: &[u8], most: u16) -> Option<u16>
     ensures { result ≡ (if is_decimal most word.now then Some (decimal_value word.now) else None) }
 {
@@ -48,13 +44,16 @@ pub(crate) fn decimal(word: &[u8], most: u16) -> Option<u16>
         if !Digit::Decimal.admits(*c) {
             return None;
         }
-        let next = u32::from(value) * 10 + u32::from(*c - b'0');
-        if next > u32::from(most) {
-            return None;
-        }
-        value = next as u16;
+        value = value.checked_mul(10)?.checked_add(u16::from(*c - b'0'))?;
     }
-    Some(value)
+    (value <= most).then_some(value)
+}
+
+// The same as a byte.
+pub(crate) fn decimal_byte(word: &[u8], most: u8) -> Option<u8>
+    ensures { result ≡ (if is_decimal most word.now then Some (decimal_value word.now) else None) }
+{
+    u8::try_from(decimal(word, u16::from(most))?).ok()
 }
 
 // The byte that the two hexadecimal digits at a place of a word spell.

@@ -1,8 +1,9 @@
 // A line that is to be added to a house.
-ghost use Rattle.std.specs.Prelude.{◌≡◌, ◌+◌, ◌<◌, ◌≤◌, vec_len, vec_capacity};
+ghost use Rattle.std.specs.Prelude.{vec_len};
+ghost use Rattle.house.specs.Memory.{IsRoomFor, TakesMore};
 
 use crate::house::House;
-use bench::row::Body;
+use crate::room::Room;
 
 pub mod methods;
 
@@ -11,15 +12,7 @@ pub mod methods;
 pub struct Pending {
     house: House,
     line: Vec<u8>,
-    bytes: Vec<u8>,
-    bodies: Vec<Body>,
-    ghost fresh: { vec_len bytes ≡ 0 },
-    ghost read: { vec_len line ≤ vec_capacity bytes },
-    ghost unused: { vec_len bodies ≡ 0 },
-    ghost listed: { vec_len line ≤ vec_capacity bodies },
-    ghost rows: { vec_len house.rows < vec_capacity house.rows },
-    ghost area: { vec_len house.area + vec_len line ≤ vec_capacity house.area },
-    ghost codes: { vec_len house.codes + vec_len line ≤ vec_capacity house.codes },
-    ghost limits: { vec_len house.limits < vec_capacity house.limits },
-    ghost calls: { vec_len house.calls < vec_capacity house.calls },
+    room: Room,
+    ghost read: { IsRoomFor room (vec_len line) },
+    ghost added: { TakesMore house (vec_len line) },
 }

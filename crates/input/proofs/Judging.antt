@@ -1,9 +1,10 @@
 -- From what the tests of a line say to what the line holds.
-use Rattle.std.proofs.Common.{◌≡◌, ℕ, ◌-◌, ◌≤◌, Bool, true, false, List, ◌++◌, length, take, drop, is_some, Some, None, sym, refl, ap, ◌∙◌, arith}
+use Rattle.std.proofs.Common.{◌≡◌, ℕ, ◌-◌, ◌≤◌, Bool, false, List, ◌++◌, length, take, drop, is_some, Some, None, sym, refl, ap, ◌∙◌, arith}
 use borrow.Rule.Slice.PartMut.{post_of}
+use Rattle.std.proofs.lemmas.Bool.{true≢false}
 use Rattle.std.proofs.lemmas.List.{drop-append-le, length-take-le, take-append-drop, take-append-le}
 use Rattle.input.specs.Hex.{bytes_from, is_hex}
-use Rattle.input.specs.Lines.{AsSkipped, AsTelegram, AsUnreadable, TelegramIn, none, pairs, content, content_size, dash, skips}
+use Rattle.input.specs.Lines.{AsTelegram, AsUnreadable, TelegramIn, none, pairs, content, content_size, dash, skips}
 use Rattle.input.proofs.Spelling.{spelled, spelling}
 
 module _ (line : List ℕ) (end : ℕ) (e : end ≡ content_size line) where
@@ -15,15 +16,9 @@ module _ (line : List ℕ) (end : ℕ) (e : end ≡ content_size line) where
   at_content : (f : List ℕ → Bool) (b : Bool) → b ≡ f (take (end - 0) line) → f (content line) ≡ b
   at_content f b h = sym (h ∙ ap f looked)
 
-  pub skipped_line : true ≡ skips (take (end - 0) line) → AsSkipped line line
-  skipped_line h = record { skipped = at_content skips true h; same = refl }
-
-  pub dash_line : false ≡ skips (take (end - 0) line) → true ≡ dash (take (end - 0) line) → AsTelegram line 0 line
-  dash_line h d = record { kept = at_content skips false h; telegram = none (at_content dash true d) refl; within = omega arith; rest = refl }
-
   no_telegram : dash (content line) ≡ false → is_hex (content line) ≡ false → (bs : List ℕ) → TelegramIn (content line) bs → ⊥
-  no_telegram d x bs (none y z) = let q : true ≡ false = sym y ∙ d in let o : ◌≡◌ {A = ℕ} 0 1 = cc in omega arith
-  no_telegram d x bs (pairs s) = let q : true ≡ false = sym (ap is_some (spelling s)) ∙ x in let o : ◌≡◌ {A = ℕ} 0 1 = cc in omega arith
+  no_telegram d x bs (none y z) = true≢false (sym y ∙ d)
+  no_telegram d x bs (pairs s) = true≢false (sym (ap is_some (spelling s)) ∙ x)
 
   pub unreadable_line : false ≡ skips (take (end - 0) line) → false ≡ dash (take (end - 0) line) → false ≡ is_hex (take (end - 0) line) → AsUnreadable line line
   unreadable_line h d x =

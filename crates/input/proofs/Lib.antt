@@ -1,4 +1,3 @@
-pub mod Blanks
 pub mod Judging
 pub mod Pairs
 pub mod Spelling

@@ -1,46 +1,23 @@
 -- Reading pairs of digits, one character at a time.
-use Rattle.std.proofs.Common.{◌≡◌, ℕ, ◌+◌, ◌-◌, ◌<◌, ◌≤◌, Bool, true, false, not, List, [], ◌∷◌, ◌++◌, length, get_or, take, drop, set, is_some, IfSome, Some, None, Option, sym, refl, ap, ◌∙◌, arith, length-set}
-use Rattle.std.proofs.lemmas.List.{append_assoc, append-nil, drop_all, drop-drop, drop_more, drop-set-lt, get_or-drop, take_more_set}
+use Rattle.std.proofs.Common.{◌≡◌, ℕ, ◌+◌, ◌-◌, ◌<◌, ◌≤◌, true, List, [], ◌∷◌, ◌++◌, length, get_or, take, drop, set, is_some, IfSome, IsSome, Some, None, Option, sym, refl, ap, ◌∙◌, subst, arith, length-set}
+use Rattle.std.proofs.lemmas.Bool.{true≢false}
+use Rattle.std.proofs.lemmas.List.{append_assoc, drop_all, drop-drop, drop_more, drop-set-lt, get_or-drop, take_more_set}
 use Rattle.input.specs.declared.hex.Step.{Step}
-use Rattle.input.specs.declared.hex.Step.TheVariants.{Open, Byte, Stray}
-use Rattle.input.specs.Hex.{after_step, and_byte, bytes_from, is_hex, step_of}
+use Rattle.input.specs.declared.hex.Step.TheVariants.{Open, Byte}
+use Rattle.input.specs.Hex.{Small, after_step, and_byte, bytes_from, is_hex, step_of}
 
 -- from one character to the next
-next : (text : List ℕ) (i : ℕ) (high : Option ℕ) (s : Step) → i < length text → s ≡ step_of high (get_or text i 0) → bytes_from (drop i text) high ≡ after_step s (bytes_from (drop (i + 1) text))
+next : (text : List ℕ) (i : ℕ) (high : Option ℕ) (s : Option Step) → i < length text → s ≡ step_of high (get_or text i 0) → bytes_from (drop i text) high ≡ after_step s (bytes_from (drop (i + 1) text))
 next text i high s h e =
     ap (λ cs. bytes_from cs high) (drop_more text i 0 h) ∙ ap (λ x. after_step x (bytes_from (drop (i + 1) text))) (sym e)
 
 at_end : (text : List ℕ) (i : ℕ) (high : Option ℕ) → length text ≤ i → bytes_from (drop i text) high ≡ bytes_from [] high
 at_end text i high h = ap (λ cs. bytes_from cs high) (drop_all i text h)
 
-byte_or_not : (b : ℕ) (o : Option (List ℕ)) → is_some (and_byte b o) ≡ is_some o
-byte_or_not b None = refl
-byte_or_not b (Some bs) = refl
-
 -- the test has come to the character i, after a high digit or none
 pub record Tested (text : List ℕ) (i : ℕ) (high : Option ℕ) : Type 0 where
   pub small : IfSome high (λ d. d < 16)
   pub left : is_hex text ≡ is_some (bytes_from (drop i text) high)
-
-module _ (text : List ℕ) (i : ℕ) (high : Option ℕ) (h : i < length text) (was : Tested text i high) where
-  tested : (s : Step) → s ≡ step_of high (get_or text i 0) → is_hex text ≡ is_some (after_step s (bytes_from (drop (i + 1) text)))
-  tested s e = was.left ∙ ap is_some (next text i high s h e)
-
-  pub test_open : (digit after : Option ℕ) → Open digit ≡ step_of high (get_or text i 0) → IfSome digit (λ d. d < 16) → after ≡ digit → Tested text (i + 1) after
-  test_open digit after e small q = rw q (record { small = small; left = tested (Open digit) e })
-
-  pub test_byte : (b : ℕ) (after : Option ℕ) → Byte b ≡ step_of high (get_or text i 0) → after ≡ None → Tested text (i + 1) after
-  test_byte b after e q = rw q (record { small = tt; left = tested (Byte b) e ∙ byte_or_not b (bytes_from (drop (i + 1) text) None) })
-
-  pub test_stray : Stray ≡ step_of high (get_or text i 0) → false ≡ is_hex text
-  test_stray e = sym (tested Stray e)
-
-open_end : (high : Option ℕ) → is_some (bytes_from [] high) ≡ not (is_some high)
-open_end None = refl
-open_end (Some d) = refl
-
-pub test_end : (text : List ℕ) (i : ℕ) (high : Option ℕ) → length text ≤ i → Tested text i high → not (is_some high) ≡ is_hex text
-test_end text i high h was = sym (was.left ∙ ap is_some (at_end text i high h) ∙ open_end high)
 
 -- bytes in front
 abbrev behind : List ℕ → Option (List ℕ) → Option (List ℕ)
@@ -67,14 +44,14 @@ unread text now i n l e =
     ∙ get_or-drop n text (i - n) 0 ∙ ap (λ j. get_or text j 0) k
 
 module _ (text now : List ℕ) (i n : ℕ) (high : Option ℕ) (h : i < length text) (was : Converted text now i n high) where
-  seen : (s : Step) → s ≡ step_of high (get_or now i 0) → bytes_from text None ≡ behind (take n now) (after_step s (bytes_from (drop (i + 1) text)))
+  seen : (s : Option Step) → s ≡ step_of high (get_or now i 0) → bytes_from text None ≡ behind (take n now) (after_step s (bytes_from (drop (i + 1) text)))
   seen s e = was.bytes ∙ ap (behind (take n now)) (next text i high s h (e ∙ ap (step_of high) (unread text now i n was.few was.rest)))
 
-  pub convert_open : (m : ℕ) (after : List ℕ) (digit then : Option ℕ) → Open digit ≡ step_of high (get_or now i 0) → IfSome digit (λ d. d < 16) → after ≡ now → m ≡ n → then ≡ digit → Converted text after (i + 1) m then
-  convert_open m after digit then e small p q r =
-      rw (p, q, r) (record { few = omega (arith, was.few); same_length = was.same_length; small = small; rest = was.rest; bytes = seen (Open digit) e })
+  pub convert_open : (m : ℕ) (after : List ℕ) (digit then : Option ℕ) (s : Option Step) → s ≡ Some (Open digit) → s ≡ step_of high (get_or now i 0) → IfSome s Small → after ≡ now → m ≡ n → then ≡ digit → Converted text after (i + 1) m then
+  convert_open m after digit then s o e small p q r =
+      rw (p, q, r) (record { few = omega (arith, was.few); same_length = was.same_length; small = subst (λ x. IfSome x Small) o small; rest = was.rest; bytes = seen (Some (Open digit)) (sym o ∙ e) })
 
-  pub convert_byte : (m b : ℕ) (after : List ℕ) (then : Option ℕ) → Byte b ≡ step_of high (get_or now i 0) → after ≡ set now n b → m ≡ n + 1 → then ≡ None → Converted text after (i + 1) m then
+  pub convert_byte : (m b : ℕ) (after : List ℕ) (then : Option ℕ) → Some (Byte b) ≡ step_of high (get_or now i 0) → after ≡ set now n b → m ≡ n + 1 → then ≡ None → Converted text after (i + 1) m then
   convert_byte m b after then e p q r =
       let l : n < length now = omega (arith, was.few, was.same_length) in
       let o = bytes_from (drop (i + 1) text) None in
@@ -84,24 +61,10 @@ module _ (text now : List ℕ) (i n : ℕ) (high : Option ℕ) (h : i < length t
         same_length = simp length-set was.same_length;
         small = tt;
         rest = drop-set-lt (n + 1) now n b (omega arith) ∙ sym (drop-drop 1 n now) ∙ ap (drop 1) was.rest ∙ drop-drop 1 n text;
-        bytes = seen (Byte b) e ∙ one_behind (take n now) b o ∙ ap (λ cs. behind cs o) (sym (take_more_set now n b l));
+        bytes = seen (Some (Byte b)) e ∙ one_behind (take n now) b o ∙ ap (λ cs. behind cs o) (sym (take_more_set now n b l));
       })
 
-  pub convert_stray : is_hex text ≡ true → Stray ≡ step_of high (get_or now i 0) → ⊥
-  convert_stray y e = let k = seen Stray e in let z : true ≡ false = sym y ∙ ap is_some k in let q : ◌≡◌ {A = ℕ} 0 1 = cc in omega arith
-
-pub convert_end : (text now : List ℕ) (i n : ℕ) (high : Option ℕ) → is_hex text ≡ true → length text ≤ i → Converted text now i n high → bytes_from text None ≡ Some (take n now)
-convert_end text now i n None y h was = was.bytes ∙ ap (behind (take n now)) (at_end text i None h) ∙ ap Some (append-nil (take n now))
-convert_end text now i n (Some d) y h was =
-    let k = was.bytes ∙ ap (behind (take n now)) (at_end text i (Some d) h) in
-    let z : true ≡ false = sym y ∙ ap is_some k in
-    let q : ◌≡◌ {A = ℕ} 0 1 = cc in
-    absurd (omega arith)
-
-pub all_left : (o : Option (List ℕ)) → o ≡ behind [] o
-all_left None = refl
-all_left (Some bs) = refl
-
-pub turned : (r s : Bool) → s ≡ not r → r ≡ not s
-turned true s e = sym (ap not e)
-turned false s e = sym (ap not e)
+  pub convert_some : is_hex text ≡ true → (s : Option Step) → s ≡ step_of high (get_or now i 0) → IsSome s
+  convert_some y (Some s) e = refl
+  convert_some y None e =
+      absurd (true≢false (sym y ∙ ap is_some (seen None e)))

@@ -1,7 +1,7 @@
 -- Bytes as hexadecimal pairs in a text of characters.
 use Rattle.std.specs.Prelude.{◌≡◌, ℕ, ◌+◌, ◌-◌, ◌*◌, ◌<◌, ◌≤◌, Bool, cond, ◌&&◌, List, [], ◌∷◌, length, take, drop, is_some, IfSome, Some, None, Option, ◌==◌, nat_le}
 use Rattle.input.specs.declared.hex.Step.{Step}
-use Rattle.input.specs.declared.hex.Step.TheVariants.{Open, Byte, Stray}
+use Rattle.input.specs.declared.hex.Step.TheVariants.{Open, Byte}
 
 abbrev pub in_range : ℕ → ℕ → ℕ → Bool
 in_range first last c = nat_le first c && nat_le c last
@@ -24,24 +24,23 @@ abbrev pub by_digit : {X : Type 0} → Option ℕ → X → (ℕ → X) → X
 by_digit None x f = x
 by_digit (Some d) x f = f d
 
-abbrev pub step_of : Option ℕ → ℕ → Step
-step_of None c = by_digit (hex_value c) (cond (c == 0x20) (Open None) Stray) (λ d. Open (Some d))
-step_of (Some h) c = by_digit (hex_value c) Stray (λ d. Byte (h * 16 + d))
+abbrev pub step_of : Option ℕ → ℕ → Option Step
+step_of None c = by_digit (hex_value c) (cond (c == 0x20) (Some (Open None)) None) (λ d. Some (Open (Some d)))
+step_of (Some h) c = by_digit (hex_value c) None (λ d. Some (Byte (h * 16 + d)))
 
 -- a digit that was read is below 16
 abbrev pub Small : Step → Type 0
 Small (Open high) = IfSome high (λ d. d < 16)
 Small (Byte b) = Unit {0}
-Small Stray = Unit {0}
 
 abbrev pub and_byte : ℕ → Option (List ℕ) → Option (List ℕ)
 and_byte b None = None
 and_byte b (Some bs) = Some (b ∷ bs)
 
-abbrev pub after_step : Step → (Option ℕ → Option (List ℕ)) → Option (List ℕ)
-after_step (Open high) rest = rest high
-after_step (Byte b) rest = and_byte b (rest None)
-after_step Stray rest = None
+abbrev pub after_step : Option Step → (Option ℕ → Option (List ℕ)) → Option (List ℕ)
+after_step (Some (Open high)) rest = rest high
+after_step (Some (Byte b)) rest = and_byte b (rest None)
+after_step None rest = None
 
 -- the bytes that a text spells, if it spells any, from left to right
 abbrev pub bytes_from : List ℕ → Option ℕ → Option (List ℕ)

@@ -1,7 +1,9 @@
 -- What a line holds, given without its line feed.
-use Rattle.std.specs.Prelude.{◌≡◌, ℕ, ◌-◌, ◌≤◌, Bool, true, false, cond, ◌&&◌, ◌||◌, List, [], ◌∷◌, length, take, drop, ◌==◌, nat_lt, slice_index}
+use Rattle.std.specs.Prelude.{◌≡◌, ℕ, ◌-◌, ◌≤◌, Bool, true, false, cond, ◌&&◌, ◌||◌, List, [], length, take, drop, Ok, Err, Result, ◌==◌, nat_lt, slice_index}
+use Rattle.std.specs.List.{list_all}
 use Rattle.input.specs.declared.line.Line.{Line}
-use Rattle.input.specs.declared.line.Line.TheVariants.{Skipped, Telegram, Unreadable}
+use Rattle.input.specs.declared.line.Line.TheVariants.{Skipped, Telegram}
+use Rattle.input.specs.declared.line.Unreadable.{Unreadable}
 use Rattle.input.specs.Hex.{Spells}
 
 -- the length without one carriage return at the end
@@ -13,8 +15,7 @@ content line = take (content_size line) line
 
 -- nothing but spaces
 abbrev pub blank : List ℕ → Bool
-blank [] = true
-blank (c ∷ cs) = c == 0x20 && blank cs
+blank cs = list_all (λ c. c == 0x20) cs
 
 -- a comment begins with #
 abbrev pub skips : List ℕ → Bool
@@ -45,7 +46,7 @@ pub record AsUnreadable (line after : List ℕ) : Type 0 where
   pub no_telegram : (bs : List ℕ) → TelegramIn (content line) bs → ⊥
   pub same : after ≡ line
 
-abbrev pub ReadAs : List ℕ → Line → List ℕ → Type 0
-ReadAs line Skipped after = AsSkipped line after
-ReadAs line (Telegram size) after = AsTelegram line size after
-ReadAs line Unreadable after = AsUnreadable line after
+abbrev pub ReadAs : List ℕ → Result Line Unreadable → List ℕ → Type 0
+ReadAs line (Ok Skipped) after = AsSkipped line after
+ReadAs line (Ok (Telegram size)) after = AsTelegram line size after
+ReadAs line (Err u) after = AsUnreadable line after

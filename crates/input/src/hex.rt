@@ -3,6 +3,7 @@ ghost use Rattle.std.specs.Prelude.{◌≡◌, ◌<◌, ◌≤◌, true, length,
 ghost use Rattle.input.specs.Hex.{Converts, Small, bytes_from, hex_value, is_hex, step_of};
 
 // The value of a hexadecimal digit, in upper or lower case.
+#[tactic(auto, unfolding(crate::specs::Hex::hex_value))]
 pub fn hex_digit(c: u8) -> Option<u8>
     ensures value { result ≡ hex_value c }
     ensures small { IfSome result (λ d. d < 16) }
@@ -22,27 +23,19 @@ pub(crate) enum Step {
     Open(Option<u8>),
     // a pair is whole
     Byte(u8),
-    // no such text
-    Stray,
 }
 
-// Reads the character `c`, after the high digit of a pair or after none.
-fn read_character(high: Option<u8>, c: u8) -> Step
+// Reads the character `c`, after the high digit of a pair or after none. `None`: no text of pairs has it there.
+fn read_character(high: Option<u8>, c: u8) -> Option<Step>
     requires { IfSome high (λ d. d < 16) }
     ensures value { result ≡ step_of high c }
-    ensures small { Small result }
+    ensures small { IfSome result Small }
 {
     match (high, hex_digit(c)) {
-        (None, None) => {
-            if c == b' ' {
-                Step::Open(None)
-            } else {
-                Step::Stray
-            }
-        }
-        (None, digit) => Step::Open(digit),
-        (Some(_), None) => Step::Stray,
-        (Some(first), Some(second)) => Step::Byte(first * 16 + second),
+        (None, None) => (c == b' ').then_some(Step::Open(None)),
+        (None, digit) => Some(Step::Open(digit)),
+        (Some(_), None) => None,
+        (Some(first), Some(second)) => Some(Step::Byte(first * 16 + second)),
     }
 }
 
@@ -52,11 +45,13 @@ pub(crate) fn is_hexadecimal(text: &[u8]) -> bool
 {
     let mut high = None;
     for c in text {
-        match read_character(high, *c) {
-            Step::Open(digit) => high = digit,
-            Step::Byte(_) => high = None,
-            Step::Stray => return false,
-        }
+        let Some(step) = read_character(high, *c) else {
+            return false;
+        };
+        high = match step {
+            Step::Open(digit) => digit,
+            Step::Byte(_) => None,
+        };
     }
     high.is_none()
 }
@@ -70,15 +65,15 @@ pub(crate) fn convert(text: &mut [u8]) -> usize
 {
     let mut count = 0;
     let mut high = None;
+    // By index: the bytes go into the text that is being read, so that no memory is asked.
     for i in 0..text.len() {
-        match read_character(high, text[i]) {
+        match read_character(high, text[i]).unwrap() {
             Step::Open(digit) => high = digit,
             Step::Byte(byte) => {
                 text[count] = byte;
                 count += 1;
                 high = None;
             }
-            Step::Stray => unreachable(),
         }
     }
     count
@@ -86,6 +81,7 @@ pub(crate) fn convert(text: &mut [u8]) -> usize
 
 // Puts the bytes that a text of hexadecimal pairs spells into the front of the text, and answers their count.
 // Any other text is left as it is.
+#[tactic(auto, using(crate::proofs::Spelling::spelled, crate::proofs::Spelling::stray, crate::proofs::Spelling::stray_value))]
 pub fn read_pairs(text: &mut [u8]) -> Option<usize>
     ensures { Converts text.old result text.new }
 {

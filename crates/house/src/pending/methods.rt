@@ -1,12 +1,15 @@
 // Adding lines to a house.
-ghost use Rattle.std.specs.Prelude.{◌≡◌, ◌+◌, ◌<◌, ◌≤◌, IfOk, vec_len, vec_capacity};
-ghost use Rattle.house.specs.Houses.{Adds, no_parts, parts_of};
-ghost use Rattle.house.specs.Lines.{added};
+ghost use Rattle.std.specs.Prelude.{◌≡◌, length, is_some, IfOk, MatchOption};
+ghost use Rattle.house.specs.Houses.{Adds, RefusesLine, TakesLine, no_parts, parts_of};
+ghost use Rattle.house.specs.Lines.{added, said};
+ghost use Rattle.house.specs.Memory.{TakesMore};
 ghost use Rattle.house.specs.Taking.{Accepts};
 
 use super::Pending;
 use crate::house::{House, Unreadable};
 use crate::house_line::{HouseLine, read_line};
+use crate::room::Room;
+use crate::source::Source;
 use std::alloc::{AllocError, Global};
 
 const MOST_LAYERS: usize = 3;
@@ -27,35 +30,31 @@ impl House {
     }
 
     // Gets the memory for all that a line, given without its line feed, can add.
-    pub fn prepare(self, heap: Global, line: Vec<u8>) -> Result<Pending, AllocError>
+    pub fn prepare(mut self, heap: Global, line: Vec<u8>) -> Result<Pending, AllocError>
         ensures house { IfOk result (λ p. parts_of p.house ≡ parts_of self) }
         ensures line { IfOk result (λ p. p.line.items ≡ line.items) }
     {
-        let mut house = self;
         let size = line.len();
-        house.rows.reserve(1)?;
-        house.area.reserve(size)?;
-        house.codes.reserve(size)?;
-        house.limits.reserve(1)?;
-        house.calls.reserve(1)?;
-        let bytes = Vec::with_capacity(heap, size)?;
-        let bodies = Vec::with_capacity(heap, size)?;
+        self.rows.reserve(1)?;
+        self.area.reserve(size)?;
+        self.codes.reserve(size)?;
+        self.limits.reserve(1)?;
+        self.calls.reserve(1)?;
+        let room = Room {
+            bytes: Vec::with_capacity(heap, size)?,
+            bodies: Vec::with_capacity(heap, size)?,
+        };
         Ok(Pending {
-            house,
+            house: self,
             line,
-            bytes,
-            bodies,
+            room,
         })
     }
 
     // Adds what a line says, if the house takes it.
-    fn take(&mut self, line: HouseLine) -> bool
-        requires rows { vec_len self.old.rows < vec_capacity self.old.rows }
-        requires area { vec_len self.old.area + added line ≤ vec_capacity self.old.area }
-        requires codes { vec_len self.old.codes + added line ≤ vec_capacity self.old.codes }
-        requires limits { vec_len self.old.limits < vec_capacity self.old.limits }
-        requires calls { vec_len self.old.calls < vec_capacity self.old.calls }
-        ensures { Accepts (parts_of self.old) line result (parts_of self.new) }
+    fn take(&mut self, line: HouseLine) -> Option<()>
+        requires { TakesMore self.old (added (said line)) }
+        ensures { Accepts (parts_of self.old) (said line) (is_some result) (parts_of self.new) }
     {
         match line {
             HouseLine::Skipped => {}
@@ -68,20 +67,29 @@ impl House {
             }
             HouseLine::Retry(limit) => {
                 if self.limits.len() >= MOST_LAYERS {
-                    return false;
+                    return None;
                 }
                 self.limits.push_reserved(limit);
             }
             HouseLine::Places(count) => {
                 if self.places.is_some() {
-                    return false;
+                    return None;
                 }
                 self.places = Some(count);
             }
             HouseLine::Call(call) => self.calls.push_reserved(call),
-            HouseLine::Unreadable => return false,
         }
-        true
+        Some(())
+    }
+
+    // Adds what a line, given without its line feed, says. Nothing is added by a line that says nothing which the
+    // house takes.
+    #[tactic(auto, using(crate::proofs::Adding::few_said, crate::proofs::Adding::takes_less, crate::proofs::Adding::unsaid_line))]
+    fn read(&mut self, line: Source) -> Option<()>
+        requires { TakesMore self.old (length line.text.now) }
+        ensures { MatchOption result (RefusesLine (parts_of self.old) line.entry.text.now (parts_of self.new)) (λ taken. TakesLine (parts_of self.old) line.entry.text.now (parts_of self.new)) }
+    {
+        self.take(read_line(line)?)
     }
 }
 
@@ -93,13 +101,15 @@ impl Pending {
         let Pending {
             mut house,
             line,
-            bytes,
-            bodies,
+            room,
         } = self;
-        if house.take(read_line(line.as_slice(), bytes, bodies)) {
-            Ok(house)
-        } else {
-            Err(Unreadable { house })
+        let source = Source {
+            text: line.as_slice(),
+            room,
+        };
+        match house.read(source) {
+            Some(()) => Ok(house),
+            None => Err(Unreadable { house }),
         }
     }
 }

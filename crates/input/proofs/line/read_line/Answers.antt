@@ -1,14 +1,6 @@
 use Rattle.std.proofs.Common.{◌≡◌, ◌-◌, length, take, rules}
-use Rattle.input.proofs.Judging.{skipped_line, dash_line, unreadable_line, telegram_line}
+use Rattle.input.proofs.Judging.{unreadable_line, telegram_line}
 use Rattle.input.proofs.line.read_line.Goals as goal
-
-pub returns-then-is_skipped : goal.returns-then-is_skipped
-returns-then-is_skipped c =
-    skipped_line c.args.line.now c.content_len-end.result c.content_len-end.ensures.value c.if-is_skipped.ensures
-
-pub returns-then-is_dash : goal.returns-then-is_dash
-returns-then-is_dash c =
-    dash_line c.args.line.now c.content_len-end.result c.content_len-end.ensures.value c.if-is_skipped.ensures c.if-is_dash.ensures
 
 pub returns-then-not-is_hexadecimal : goal.returns-then-not-is_hexadecimal
 returns-then-not-is_hexadecimal c =
@@ -16,5 +8,5 @@ returns-then-not-is_hexadecimal c =
 
 pub returns : goal.returns
 returns c =
-    let same : length c.convert.new.text ≡ length (take (c.content_len-end.result - 0) c.args.line.now) = search rules in
-    telegram_line c.args.line.now c.content_len-end.result c.content_len-end.ensures.value c.convert.result c.convert.new.text c.content_len-end.ensures.within c.if-is_skipped.ensures same c.convert.ensures.within c.convert.ensures.bytes c.convert.ensures.rest
+    let same : length c.convert-size.new.text ≡ length (take (c.content_len-end.result - 0) c.args.line.now) = search rules in
+    telegram_line c.args.line.now c.content_len-end.result c.content_len-end.ensures.value c.convert-size.result c.convert-size.new.text c.content_len-end.ensures.within c.if-is_skipped.ensures same c.convert-size.ensures.within c.convert-size.ensures.bytes c.convert-size.ensures.rest

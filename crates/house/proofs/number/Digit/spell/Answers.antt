@@ -1,17 +1,12 @@
-use Rattle.std.proofs.Common.{◌&&◌, eqb, length, sym, ap, ◌∙◌, arith}
-use Rattle.std.proofs.lemmas.Bool.{and_left}
-use Rattle.bench.proofs.Listing.{each_end, each_no, each_yes}
+use Rattle.std.proofs.Common.{◌≡◌, ◌&&◌, true, eqb, length, ap, rules}
+use borrow.Author.Tests.{tests}
+use Rattle.std.specs.List.{list_all}
+use Rattle.std.proofs.lemmas.Iterator.{YieldsList-from_slice}
+use Rattle.std.proofs.lemmas.Iterator.Search.{all_from_yields_List}
 use Rattle.house.specs.Numbers.{is_digit}
 use Rattle.house.proofs.number.Digit.spell.Goals as goal
 
-pub returns-then-not-admits : goal.returns-then-not-admits
-returns-then-not-admits c =
-    sym (and_left _ _ (sym c.loop-c.invariant ∙ each_no (is_digit c.args.self.now) c.args.word.now c.loop-c.c-index 0 (omega arith) (sym c.if-not-admits.ensures)))
-
-pub loop-c-preserved : goal.loop-c-preserved
-loop-c-preserved c =
-    each_yes (is_digit c.args.self.now) c.args.word.now c.loop-c.c-index 0 (omega arith) (sym c.if-not-admits.ensures) ∙ c.loop-c.invariant
-
-pub returns : goal.returns
-returns c =
-    sym (ap (λ b. b && eqb (length c.args.word.now) c.args.count) (sym c.loop-c.invariant ∙ each_end (is_digit c.args.self.now) c.args.word.now c.loop-c.c-index (omega arith)))
+pub returns-then-all : goal.returns-then-all
+returns-then-all c =
+    let all : true ≡ list_all (is_digit c.args.self.now) c.args.word.now = all_from_yields_List (is_digit c.args.self.now) _ _ _ c.if-all.ensures.ran (YieldsList-from_slice c.args.word.now cc) (λ x b q k. search (rules, tests)) in
+    ap (λ b. b && eqb (length c.args.word.now) c.args.count) all
