@@ -41,7 +41,7 @@ returns-in-Clean c =
     record {
       exchanged = clean_exchange b.faults c.next.new.self e.codes e.position b.bus c.answer.new.self c.args.request.now c.answer.new.reply c.answer.result e.code (w.exchanged (meaning b) refl);
       layers = refl;
-      befalls = befalls_by b _ Clean c.args.request.now c.answer.new.reply c.answer.result e.code w.buffer w.count w.bus w.table e.codes e.position;
+      befalls = befalls_by b _ Clean c.args.request.now c.answer.new.reply c.answer.result e.code w.buffer w.count w.hears.bus w.hears.table e.codes e.position;
     }
 
 pub returns-in-LostOut : goal.returns-in-LostOut
@@ -63,7 +63,7 @@ returns-in-LostBack c =
     record {
       exchanged = faulty_exchange b.faults c.next.new.self e.codes e.position b.bus c.lose_reply.new.self c.args.request.now c.lose_reply.new.reply c.lose_reply.result LostBack tt e.code (w.exchanged (meaning b) refl);
       layers = refl;
-      befalls = befalls_by b _ LostBack c.args.request.now c.lose_reply.new.reply c.lose_reply.result e.code w.buffer w.count w.bus w.table e.codes e.position;
+      befalls = befalls_by b _ LostBack c.args.request.now c.lose_reply.new.reply c.lose_reply.result e.code w.buffer w.count w.hears.bus w.hears.table e.codes e.position;
     }
 
 pub returns-in-Damaged : goal.returns-in-Damaged
@@ -74,5 +74,5 @@ returns-in-Damaged c =
     record {
       exchanged = faulty_exchange b.faults c.next.new.self e.codes e.position b.bus c.damage_reply.new.self c.args.request.now c.damage_reply.new.reply c.damage_reply.result Damaged tt e.code (w.exchanged (meaning b) refl);
       layers = refl;
-      befalls = befalls_by b _ Damaged c.args.request.now c.damage_reply.new.reply c.damage_reply.result e.code w.buffer w.count w.bus w.table e.codes e.position;
+      befalls = befalls_by b _ Damaged c.args.request.now c.damage_reply.new.reply c.damage_reply.result e.code w.buffer w.count w.hears.bus w.hears.table e.codes e.position;
     }

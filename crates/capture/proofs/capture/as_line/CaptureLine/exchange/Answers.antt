@@ -9,7 +9,7 @@ use Rattle.capture.proofs.capture.as_line.CaptureLine.exchange.Goals as goal
 pub invariant_of-self : goal.invariant_of-self
 invariant_of-self c =
     let x = c.args.self.now in
-    let w = c.answer.ensures in record { sound = ∣ exchange_sound (sound_out (meaning x) x.sound) (w.exchanged (meaning x) refl).exchange ∣₁; counted = x.counted ∙ ap (λ t. length (telegrams_of (recorded t))) (sym w.table) }
+    let w = c.answer.ensures in record { sound = ∣ exchange_sound (sound_out (meaning x) x.sound) (w.exchanged (meaning x) refl).exchange ∣₁; counted = x.counted ∙ ap (λ t. length (telegrams_of (recorded t))) (sym w.hears.table) }
 
 pub returns : goal.returns
 returns c =
@@ -18,5 +18,5 @@ returns c =
     record {
       exchanged = w.exchanged (meaning x) refl;
       layers = refl;
-      answers = record { buffer = w.buffer; count = w.count; means = ap faultless w.bus; table = w.table };
+      answers = record { buffer = w.buffer; count = w.count; means = ap faultless w.hears.bus; table = w.hears.table };
     }
