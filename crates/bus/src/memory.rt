@@ -1,7 +1,7 @@
 // What meters remember from one request to the next.
-ghost use Rattle.std.specs.Prelude.{◌≡◌, ◌<◌, List, [], ◌∷◌, length, Some};
-ghost use Rattle.line.specs.Meters.{Meter};
+ghost use Rattle.std.specs.Prelude.{◌≡◌, ◌<◌, List, [], ◌∷◌, length, None, Some};
 ghost use Rattle.std.specs.Option.{option_map};
+ghost use Rattle.line.specs.Meters.{Meter};
 ghost use Rattle.line.specs.Buses.{due as due_after, fetched, fitting, hear as hearing, holds as holding, selected};
 ghost use Rattle.bus.specs.Memories.{OnlyHas, Positive, remembering, turn_kept};
 ghost use Rattle.bus.specs.Replies.{due_from};
@@ -26,16 +26,25 @@ pub(crate) struct Memory {
 }
 
 impl Memory {
+    // No bit is kept yet.
+    pub(crate) fn new(selection: Option<Pattern>) -> Memory
+        ensures selection { result.selection ≡ selection }
+        ensures kept { result.kept ≡ None }
+    {
+        Memory {
+            selection,
+            kept: None,
+        }
+    }
+
     // A fetch of the only selected meter, which has `count` telegrams: a new bit is kept, and the next telegram's turn comes.
     fn fetch(&mut self, bit: bool, count: usize)
         requires { 0 < count }
         ensures { (ms : List Meter) (m : Meter) → count ≡ length m.telegrams → remembering ms self.new ≡ fetched (m ∷ []) bit (remembering ms self.old) }
     {
         if !self.holds(bit) {
-            self.kept = Some(Kept {
-                bit,
-                turn: self.turn() % count + 1,
-            });
+            let turn = self.turn() % count + 1;
+            self.kept = Some(Kept { bit, turn });
         }
     }
 
@@ -47,18 +56,8 @@ impl Memory {
         ensures { (ms : List Meter) → OnlyHas (selected (remembering ms self.old)) only → remembering ms self.new ≡ hearing (Some request.now) (remembering ms self.old) }
     {
         match request {
-            Request::Selection(pattern) => {
-                *self = Memory {
-                    selection: Some(*pattern),
-                    kept: None,
-                };
-            }
-            Request::Release => {
-                *self = Memory {
-                    selection: None,
-                    kept: None,
-                };
-            }
+            Request::Selection(pattern) => *self = Memory::new(Some(*pattern)),
+            Request::Release => *self = Memory::new(None),
             Request::Fetch { bit } => {
                 if let Some(count) = only {
                     self.fetch(*bit, count);

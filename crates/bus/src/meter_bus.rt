@@ -23,10 +23,7 @@ impl<T: Table> MeterBus<T> {
         ensures table { result.table ≡ table }
         ensures bus { bus_of T.meters result ≡ at_rest (T.meters table) }
     {
-        let memory = Memory {
-            selection: None,
-            kept: None,
-        };
+        let memory = Memory::new(None);
         MeterBus { table, memory }
     }
 
