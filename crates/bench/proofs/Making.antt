@@ -7,6 +7,7 @@ use Rattle.link.specs.declared.fault.Report.{Report}
 use Rattle.link.specs.Checks.{first_fault}
 use Rattle.link.proofs.Ordering.{or_else}
 use Rattle.line.specs.Exchanges.{Sound, State}
+use Rattle.bus.proofs.Sharing.{neither}
 use Rattle.bus.specs.Memories.{at_rest, bus_of}
 use Rattle.bus.specs.declared.meter_bus.MeterBus.{MeterBus}
 use Rattle.bench.specs.declared.fault.BenchFault.{BenchFault}
@@ -22,11 +23,6 @@ use Rattle.bench.specs.Proper.{Fits, Inside, Proper}
 use Rattle.bench.specs.Rows.{body_fits, each, row_fits}
 use Rattle.bench.specs.Stocking.{all_pass, rows_stocked}
 use Rattle.bench.proofs.Ordering.{refusal_by}
-
--- none of two faults
-neither : (o p : Option Report) → or_else o p ≡ None → (o ≡ None) × (p ≡ None)
-neither None p e = (refl, e)
-neither (Some r) p e = absurd cc
 
 -- a check that holds, and those after it
 holds_then : (b : Bool) (o : Option Report) (r : Report) → cond b o (Some r) ≡ None → (b ≡ true) × (o ≡ None)
