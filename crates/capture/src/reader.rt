@@ -53,12 +53,9 @@ fn telegram_end(bytes: &[u8], at: usize) -> usize
     ensures end { result ≡ at + length (telegram_from bytes.now at) }
     ensures few { result ≤ at + 261 }
 {
-    let left = bytes.len() - at;
-    if left < 2 {
-        return bytes.len();
-    }
-    let size = 6 + bytes[at + 1] as usize;
-    if size < left { at + size } else { bytes.len() }
+    bytes.get(at + 1).map_or(bytes.len(), |size| {
+        bytes.len().min(at + 6 + *size as usize)
+    })
 }
 
 // The telegram that starts at a place.
