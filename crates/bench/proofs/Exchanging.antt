@@ -2,16 +2,13 @@
 use Rattle.std.proofs.Common.{◌≡◌, ℕ, ◌+◌, ◌<◌, true, false, cond, eqb, List, [], length, get_or, vec_items, sym, refl, ap, ◌∙◌, subst, ap₂, ⊎_elim, arith}
 use Rattle.std.proofs.lemmas.List.{get_or_past}
 use Rattle.std.proofs.lemmas.Bool.{cases_lt, cond_both, not_from_false, not_from_true}
-use Rattle.link.specs.Buffers.{filled}
 use Rattle.line.specs.Exchanges.{Exchange, Exchanged, cleared, faulted}
 use Rattle.bus.specs.Memories.{bus_of}
 use Rattle.bus.specs.declared.meter_bus.MeterBus.{MeterBus}
-use Rattle.bench.specs.declared.bench.Bench.{Bench}
 use Rattle.bench.specs.declared.fault_codes.Code.{Code}
 use Rattle.bench.specs.declared.fault_codes.Code.TheVariants.{Clean, LostOut, LostBack, Damaged}
 use Rattle.bench.specs.declared.fault_codes.FaultCodes.{FaultCodes}
 use Rattle.bench.specs.declared.table.RowTable.{RowTable}
-use Rattle.bench.specs.Benches.{Befalls, bus_by, codes_of, meaning, next_code, reply_by}
 use Rattle.bench.specs.Codes.{code_at, faulty, longest, position_after, streak}
 use Rattle.bench.specs.Meaning.{row_meters, state_of}
 use Rattle.bench.proofs.Stretches.{fault_inside, streak_ends, streak_grows, streak_within}
@@ -95,15 +92,3 @@ module _ (f f' : FaultCodes) (codes : f'.codes ≡ f.codes) (position : f'.posit
   unheard m request e =
       let g = growth LostOut tt e in
       Exchange.lost_out g.below refl (sym (state_after m m ((state_of m f).streak + 1) g.more))
-
--- what is to be shown of an exchange, by the code that befalls it
-pub befalls_by : (b b' : Bench) (code : Code) (request reply : List ℕ) (n : ℕ) → code ≡ next_code b → reply ≡ filled (reply_by code request (meaning b).bus) → n ≡ length (reply_by code request (meaning b).bus) → (meaning b').bus ≡ bus_by code request (meaning b).bus → b'.bus.table ≡ b.bus.table → b'.faults.codes ≡ b.faults.codes → b'.faults.position ≡ position_after (codes_of b) b.faults.position → Befalls b request n reply b'
-befalls_by b b' code request reply n e buffer count bus table codes position =
-    record {
-      buffer = buffer ∙ ap (λ x. filled (reply_by x request (meaning b).bus)) e;
-      count = count ∙ ap (λ x. length (reply_by x request (meaning b).bus)) e;
-      bus = bus ∙ ap (λ x. bus_by x request (meaning b).bus) e;
-      table = table;
-      codes = codes;
-      position = position;
-    }

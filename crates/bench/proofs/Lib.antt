@@ -3,4 +3,3 @@ pub mod Listing
 pub mod Making
 pub mod Ordering
 pub mod Stretches
-pub mod Tabling

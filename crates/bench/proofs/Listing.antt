@@ -1,7 +1,10 @@
 -- Tests of the elements of a list, one after another.
-use Rattle.std.proofs.Common.{◌≡◌, ℕ, ◌+◌, ◌<◌, ◌≤◌, Bool, true, false, cond, ◌&&◌, List, length, get_or, drop, Some, None, sym, ap, ◌∙◌}
+use Rattle.std.proofs.Common.{◌≡◌, ℕ, ◌+◌, ◌<◌, ◌≤◌, Bool, true, false, cond, not, ◌&&◌, List, [], ◌∷◌, length, get_or, drop, Some, None, Option, MatchOption, sym, refl, ap, ◌∙◌}
+use Rattle.std.specs.List.{position, position_from}
+use Rattle.std.specs.Option.{option_map}
+use Rattle.std.proofs.lemmas.Iterator.Adapters.{position_from-zero}
 use Rattle.std.proofs.lemmas.List.{drop_more, drop_all}
-use Rattle.std.proofs.lemmas.Bool.{cond-false, cond-true}
+use Rattle.link.specs.declared.fault.Report.{Report}
 use Rattle.link.specs.Checks.{first_fault}
 use Rattle.bench.specs.Checks.{numbered}
 use Rattle.bench.specs.Faults.{bad}
@@ -18,17 +21,23 @@ module _ {X : Type 0} (p : X → Bool) (xs : List X) (i : ℕ) where
     pub each_no : p (get_or xs i d) ≡ false → each p (drop i xs) ≡ false
     each_no e = each_more ∙ ap (λ b. b && each p (drop (i + 1) xs)) e
 
-    numbered_more : first_fault (numbered p i (drop i xs)) ≡ cond (p (get_or xs i d)) (first_fault (numbered p (i + 1) (drop (i + 1) xs))) (Some (bad i))
-    numbered_more = ap (λ l. first_fault (numbered p i l)) (drop_more xs i d h)
-
-    pub numbered_yes : p (get_or xs i d) ≡ true → first_fault (numbered p (i + 1) (drop (i + 1) xs)) ≡ first_fault (numbered p i (drop i xs))
-    numbered_yes e = sym (numbered_more ∙ cond-true _ _ _ e)
-
-    pub numbered_no : p (get_or xs i d) ≡ false → Some (bad i) ≡ first_fault (numbered p i (drop i xs))
-    numbered_no e = sym (numbered_more ∙ cond-false _ _ _ e)
-
   pub each_end : length xs ≤ i → each p (drop i xs) ≡ true
   each_end h = ap (each p) (drop_all i xs h)
 
-  pub numbered_end : length xs ≤ i → None ≡ first_fault (numbered p i (drop i xs))
-  numbered_end h = sym (ap (λ l. first_fault (numbered p i l)) (drop_all i xs h))
+one_more : (b : Bool) (n : ℕ) (o : Option Report) (q : Option ℕ) → o ≡ option_map bad q → cond b o (Some (bad n)) ≡ option_map bad (cond (not b) (Some n) q)
+one_more true n o q e = e
+one_more false n o q e = refl
+
+told : (r : Option Report) (o : Option ℕ) → MatchOption o (r ≡ None) (λ i. r ≡ Some (bad i)) → r ≡ option_map bad o
+told r None h = h
+told r (Some i) h = h
+
+module _ {X : Type 0} (p : X → Bool) where
+  numbered_from : (n : ℕ) (xs : List X) → first_fault (numbered p n xs) ≡ option_map bad (position_from (λ x. not (p x)) n xs)
+  numbered_from n [] = refl
+  numbered_from n (x ∷ xs) = one_more (p x) n _ _ (numbered_from (n + 1) xs)
+
+  -- what a search for the first element that does not pass tells
+  pub first_told : (xs : List X) (o : Option ℕ) (r : Option Report) → o ≡ position (λ x. not (p x)) xs → MatchOption o (r ≡ None) (λ i. r ≡ Some (bad i)) → r ≡ first_fault (numbered p 0 xs)
+  first_told xs o r e h =
+      told r o h ∙ ap (option_map bad) (e ∙ position_from-zero (λ x. not (p x)) xs) ∙ sym (numbered_from 0 xs)

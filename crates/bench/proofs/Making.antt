@@ -1,5 +1,5 @@
 -- What it means that every check before making holds, and what a new bench means.
-use Rattle.std.proofs.Common.{◌≡◌, ℕ, ◌+◌, ◌≤◌, Bool, true, false, cond, leb, List, [], ◌∷◌, length, is_ok, Some, None, Ok, Err, vec_items, vec_len, Decides, Option, Result, sym, refl, ap, ◌∙◌, arith}
+use Rattle.std.proofs.Common.{◌≡◌, ℕ, ◌+◌, ◌≤◌, Bool, true, false, cond, leb, List, [], ◌∷◌, length, is_ok, Some, None, Ok, Err, vec_items, vec_len, Decides, Option, Result, sym, refl, ap, ◌∙◌, subst, arith}
 use Rattle.std.specs.List.{AllByRecursion}
 use Rattle.std.proofs.ByRecursion.{All-weaker}
 use Rattle.std.proofs.lemmas.Bool.{and_from, and_parts, cond-true, false≢true, le-leb, leb-true}
@@ -7,14 +7,15 @@ use Rattle.link.specs.declared.fault.Report.{Report}
 use Rattle.link.specs.Checks.{first_fault}
 use Rattle.link.proofs.Ordering.{or_else}
 use Rattle.line.specs.Exchanges.{Sound, State}
+use Rattle.bus.proofs.Sharing.{neither}
 use Rattle.bus.specs.Memories.{at_rest, bus_of}
 use Rattle.bus.specs.declared.meter_bus.MeterBus.{MeterBus}
 use Rattle.bench.specs.declared.fault.BenchFault.{BenchFault}
 use Rattle.bench.specs.declared.row.Body.{Body}
 use Rattle.bench.specs.declared.row.Row.{Row}
 use Rattle.bench.specs.declared.table.RowTable.{RowTable}
-use Rattle.bench.specs.Checks.{bench_refusal, code_checks, known, numbered, row_checks, size_checks}
-use Rattle.bench.specs.Codes.{longest, streak}
+use Rattle.bench.specs.Checks.{bench_refusal, code_checks, numbered, row_checks, size_checks}
+use Rattle.bench.specs.Codes.{known, longest, streak}
 use Rattle.bench.specs.Faults.{bad, bench_fault, bench_report, oversize}
 use Rattle.bench.specs.Meaning.{row_meters}
 use Rattle.bench.specs.Meters.{meters_of}
@@ -23,15 +24,10 @@ use Rattle.bench.specs.Rows.{body_fits, each, row_fits}
 use Rattle.bench.specs.Stocking.{all_pass, rows_stocked}
 use Rattle.bench.proofs.Ordering.{refusal_by}
 
--- none of two faults
-neither : (o p : Option Report) → or_else o p ≡ None → (o ≡ None) × (p ≡ None)
-neither None p e = (refl, e)
-neither (Some r) p e = let z : ◌≡◌ {A = ℕ} 0 1 = cc in absurd (omega arith)
-
 -- a check that holds, and those after it
 holds_then : (b : Bool) (o : Option Report) (r : Report) → cond b o (Some r) ≡ None → (b ≡ true) × (o ≡ None)
 holds_then true o r e = (refl, e)
-holds_then false o r e = let z : ◌≡◌ {A = ℕ} 0 1 = cc in absurd (omega arith)
+holds_then false o r e = absurd cc
 
 module _ {X : Type 0} (p : X → Bool) where
   each_checked : (n : ℕ) (xs : List X) → first_fault (numbered p n xs) ≡ None → each p xs ≡ true
@@ -80,6 +76,7 @@ from_fits size r h =
 -- what no refusal says
 pub record Accepted (rows : List Row) (area codes : List ℕ) : Type 0 where
   pub few_codes : length codes ≤ 4096
+  pub all_known : each known codes ≡ true
   pub fitting : each (row_fits (length area)) rows ≡ true
   pub proper : Proper rows area codes
 
@@ -98,6 +95,7 @@ module _ (rows : List Row) (area codes : List ℕ) where
       let codes_pass = each_checked known 0 codes k.1 in
       record {
         few_codes = leb-true _ _ c.0;
+        all_known = codes_pass;
         fitting = rows_pass;
         proper =
             record {
@@ -120,17 +118,14 @@ module _ (rows : List Row) (area codes : List ℕ) where
   pub decided : {T : Type 0} (r : Result T BenchFault) → bench_fault r ≡ bench_refusal rows area codes → Decides (is_ok r) (Proper rows area codes)
   decided (Ok x) e = (λ _. (accepted e).proper, λ _. refl)
   decided (Err f) e =
-      (λ h. absurd (false≢true h), λ p. let s : Some (bench_report f) ≡ None = e ∙ sym (proper_passes p) in let z : ◌≡◌ {A = ℕ} 0 1 = cc in absurd (omega arith))
+      (λ h. absurd (false≢true h), λ p. let s : Some (bench_report f) ≡ None = e ∙ sym (proper_passes p) in absurd cc)
 
-  -- where the lists were checked under other names
-  pub refusal_at : {rows' : List Row} {area' codes' : List ℕ} {o : Option Report} → rows' ≡ rows → area' ≡ area → codes' ≡ codes → o ≡ bench_refusal rows' area' codes' → o ≡ bench_refusal rows area codes
-  refusal_at {rows'} {area'} {codes'} r a c e =
-      e ∙ ap (λ x. bench_refusal x area' codes') r ∙ ap (λ x. bench_refusal rows x codes') a ∙ ap (bench_refusal rows area) c
+  -- a new bench
+  module _ (m : MeterBus RowTable) (h : bus_of row_meters m ≡ at_rest (meters_of rows area)) where
+    pub new_means : ◌≡◌ {A = State} (record { bus = bus_of row_meters m; run = longest codes; streak = streak codes 0 }) (record { bus = at_rest (meters_of rows area); run = longest codes; streak = 0 })
+    unfolding streak
+    new_means = ap (λ b. record { bus = b; run = longest codes; streak = 0 }) h
 
--- a new bench
-pub new_means : (m : MeterBus RowTable) (rows : List Row) (area codes : List ℕ) → bus_of row_meters m ≡ at_rest (meters_of rows area) → ◌≡◌ {A = State} (record { bus = bus_of row_meters m; run = longest codes; streak = streak codes 0 }) (record { bus = at_rest (meters_of rows area); run = longest codes; streak = 0 })
-unfolding streak
-new_means m rows area codes e = ap (λ b. record { bus = b; run = longest codes; streak = 0 }) e
-
-pub new_sound : (rows : List Row) (area codes : List ℕ) → each (row_fits (length area)) rows ≡ true → Sound (record { bus = at_rest (meters_of rows area); run = longest codes; streak = 0 })
-new_sound rows area codes e = record { stocked = rows_stocked rows area e; turned = refl; limited = omega arith }
+    pub new_sound : None ≡ bench_refusal rows area codes → Sound (record { bus = bus_of row_meters m; run = longest codes; streak = streak codes 0 })
+    new_sound e =
+        subst Sound (sym new_means) (record { stocked = rows_stocked rows area (accepted e).fitting; turned = refl; limited = omega arith })

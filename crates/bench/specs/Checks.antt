@@ -3,6 +3,7 @@ use Rattle.std.specs.Prelude.{ℕ, ◌+◌, Bool, List, [], ◌∷◌, ◌++◌,
 use Rattle.link.specs.declared.fault.Report.{Report}
 use Rattle.link.specs.Checks.{Check, must, first_fault}
 use Rattle.bench.specs.declared.row.Row.{Row}
+use Rattle.bench.specs.Codes.{known}
 use Rattle.bench.specs.Faults.{bad, oversize}
 use Rattle.bench.specs.Rows.{row_fits}
 
@@ -17,10 +18,6 @@ numbered p number (x ∷ xs) = must (p x) (bad number) ∷ numbered p (number + 
 
 abbrev pub row_checks : ℕ → ℕ → List Row → List Check
 row_checks size number rows = numbered (row_fits size) number rows
-
--- a code is 0 clean, 1 lost out, 2 lost back or 3 damaged
-abbrev pub known : ℕ → Bool
-known code = nat_le code 3
 
 abbrev pub code_checks : ℕ → List ℕ → List Check
 code_checks number codes = numbered known number codes

@@ -1,12 +1,21 @@
 -- Fault codes: what befalls each exchange, and how many in a row are faulty.
-use Rattle.std.specs.Prelude.{◌≡◌, ℕ, zero, suc, ◌+◌, ◌<◌, ◌≤◌, min, max, Bool, true, cond, not, List, [], ◌∷◌, length, ◌==◌, slice_index}
+use Rattle.std.specs.Prelude.{◌≡◌, ℕ, zero, suc, ◌+◌, ◌<◌, ◌≤◌, min, max, Bool, true, false, cond, not, List, [], ◌∷◌, length, ◌==◌, nat_le, slice_index, Result, MatchResult}
 use Rattle.std.specs.List.{prefix_len}
 use Rattle.bench.specs.declared.fault_codes.Code.{Code}
+use Rattle.bench.specs.declared.fault_codes.UnknownCode.{UnknownCode}
 use Rattle.bench.specs.declared.fault_codes.Code.TheVariants.{Clean, LostOut, LostBack, Damaged}
 
 -- 0 clean, 1 lost out, 2 lost back, 3 damaged
 abbrev pub code_of : ℕ → Code
 code_of n = cond (n == 0) Clean (cond (n == 1) LostOut (cond (n == 2) LostBack Damaged))
+
+-- only 0 to 3 are codes
+abbrev pub known : ℕ → Bool
+known code = nat_le code 3
+
+-- a number is read as the code that it stands for, and refused where it stands for none
+abbrev pub Decodes : ℕ → Result Code UnknownCode → Type 0
+Decodes n r = MatchResult r (λ code. (known n ≡ true) × (code ≡ code_of n)) (λ e. known n ≡ false)
 
 -- the code at a position; after the last, all are clean
 abbrev pub code_at : List ℕ → ℕ → Code

@@ -1,12 +1,12 @@
 -- What a row may be.
-use Rattle.std.specs.Prelude.{ℕ, ◌+◌, Bool, true, ◌&&◌, List, [], ◌∷◌, vec_items, vec_len, nat_le}
+use Rattle.std.specs.Prelude.{ℕ, ◌+◌, Bool, ◌&&◌, List, vec_items, vec_len, nat_le}
+use Rattle.std.specs.List.{list_all}
 use Rattle.bench.specs.declared.row.Body.{Body}
 use Rattle.bench.specs.declared.row.Row.{Row}
 
 -- each element passes
 abbrev pub each : {X : Type 0} → (X → Bool) → List X → Bool
-each p [] = true
-each p (x ∷ xs) = p x && each p xs
+each p xs = list_all p xs
 
 -- a body has at most 240 bytes, and lies inside an area of this size
 abbrev pub body_fits : ℕ → Body → Bool

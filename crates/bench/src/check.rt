@@ -5,6 +5,7 @@ ghost use Rattle.bench.specs.Checks.{bench_refusal, code_checks, row_checks, siz
 ghost use Rattle.bench.specs.Faults.{bench_fault};
 
 use crate::fault::BenchFault;
+use crate::fault_codes::Code;
 use crate::row::Row;
 
 const MOST_ROWS: usize = 250;
@@ -12,8 +13,6 @@ const MOST_ROWS: usize = 250;
 const MOST_BYTES: usize = 65_535;
 
 const MOST_CODES: usize = 4_096;
-
-const LAST_CODE: u8 = 3;
 
 fn check_sizes(rows: usize, bytes: usize, codes: usize) -> Result<(), BenchFault>
     ensures { bench_fault result ≡ first_fault (size_checks rows bytes codes) }
@@ -28,27 +27,23 @@ fn check_sizes(rows: usize, bytes: usize, codes: usize) -> Result<(), BenchFault
 fn check_rows(rows: &[Row], size: usize) -> Result<(), BenchFault>
     ensures { bench_fault result ≡ first_fault (row_checks size 0 rows.now) }
 {
-    for (number, row) in rows.iter().enumerate() {
-        if !row.fits(size) {
-            return Err(BenchFault::Row { number });
-        }
-    }
-    Ok(())
+    rows.iter()
+        .position(|row| !row.fits(size))
+        .map_or(Ok(()), |number| Err(BenchFault::Row { number }))
 }
 
 // Refuses the first code that is none.
 fn check_codes(codes: &[u8]) -> Result<(), BenchFault>
     ensures { bench_fault result ≡ first_fault (code_checks 0 codes.now) }
 {
-    for (number, code) in codes.iter().enumerate() {
-        if *code > LAST_CODE {
-            return Err(BenchFault::Code { number });
-        }
-    }
-    Ok(())
+    codes
+        .iter()
+        .position(|code| Code::try_from(*code).is_err())
+        .map_or(Ok(()), |number| Err(BenchFault::Code { number }))
 }
 
 // The first fault of what a bench is to be made from: sizes, then rows, then codes.
+#[tactic(auto, using(link::proofs::Ordering::first_joined), unfolding(crate::specs::Checks::bench_refusal))]
 pub(crate) fn check(rows: &[Row], area: &[u8], codes: &[u8]) -> Result<(), BenchFault>
     ensures { bench_fault result ≡ bench_refusal rows.now area.now codes.now }
 {

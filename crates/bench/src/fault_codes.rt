@@ -1,6 +1,7 @@
 // The fault codes of a bench: what befalls its exchanges, one after another.
-ghost use Rattle.std.specs.Prelude.{◌≡◌, ◌≤◌, vec_len};
-ghost use Rattle.bench.specs.Codes.{code_at, position_after};
+ghost use Rattle.std.specs.Prelude.{◌≡◌, ◌≤◌, true, vec_len};
+ghost use Rattle.std.specs.List.{list_all};
+ghost use Rattle.bench.specs.Codes.{Decodes, code_at, known, position_after};
 
 // What befalls one exchange.
 #[derive(Clone, Copy)]
@@ -14,12 +15,33 @@ pub(crate) enum Code {
     Damaged,
 }
 
+// A number that stands for nothing that may befall an exchange.
+#[derive(Clone, Copy)]
+pub(crate) struct UnknownCode;
+
+impl TryFrom<u8> for Code {
+    type Error = UnknownCode;
+
+    ghost try_from_gives = { Decodes };
+
+    fn try_from(code: u8) -> Result<Code, UnknownCode> {
+        match code {
+            0 => Ok(Code::Clean),
+            1 => Ok(Code::LostOut),
+            2 => Ok(Code::LostBack),
+            3 => Ok(Code::Damaged),
+            _ => Err(UnknownCode),
+        }
+    }
+}
+
 #[derive(Drop)]
 pub(crate) struct FaultCodes {
     pub(crate) codes: Vec<u8>,
     // the number of the next exchange's code; it stops one past the last
     pub(crate) position: usize,
     ghost few: { vec_len codes ≤ 4096 },
+    ghost all_known: { list_all known codes.items ≡ true },
 }
 
 impl FaultCodes {
@@ -29,18 +51,11 @@ impl FaultCodes {
         ensures position { self.new.position ≡ position_after self.old.codes.items self.old.position }
         ensures code { result ≡ code_at self.old.codes.items self.old.position }
     {
-        let count = self.codes.len();
-        if self.position >= count {
-            self.position = count + 1;
+        let Some(code) = self.codes.get(self.position).copied() else {
+            self.position = self.codes.len() + 1;
             return Code::Clean;
-        }
-        let code = self.codes[self.position];
+        };
         self.position += 1;
-        match code {
-            0 => Code::Clean,
-            1 => Code::LostOut,
-            2 => Code::LostBack,
-            _ => Code::Damaged,
-        }
+        Code::try_from(code).unwrap()
     }
 }

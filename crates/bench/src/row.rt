@@ -57,12 +57,7 @@ impl Body {
 fn each_fits(bodies: &[Body], size: usize) -> bool
     ensures { result ≡ each (body_fits size) bodies.now }
 {
-    for body in bodies {
-        if !body.fits(size) {
-            return false;
-        }
-    }
-    true
+    bodies.iter().all(|body| body.fits(size))
 }
 
 impl Row {
@@ -70,10 +65,11 @@ impl Row {
     pub(crate) fn fits(&self, size: usize) -> bool
         ensures { result ≡ row_fits size self.now }
     {
-        let count = self.bodies.len();
-        count >= LEAST_BODIES && count <= MOST_BODIES && each_fits(self.bodies.as_slice(), size)
+        (LEAST_BODIES..=MOST_BODIES).contains(&self.bodies.len()) && each_fits(&self.bodies, size)
     }
+
     // Fills the buffer with the row's telegram that has this body, then 00, and answers the count of its bytes.
+    #[tactic(auto, unfolding(crate::specs::Meters::telegram_with))]
     pub(crate) fn write(&self, body: &[u8], reply: &mut Buffer) -> usize
         requires { length body.now ≤ 240 }
         ensures buffer { reply.new ≡ filled (telegram_with self.now body.now) }

@@ -27,26 +27,20 @@ impl Table for RowTable {
     }
 
     fn address(&self, row: usize) -> Option<Address> {
-        match self.rows.get(row) {
-            Some(row) => Some(row.address),
-            None => None,
-        }
+        self.rows.get(row).map(|row| row.address)
     }
 
     fn telegrams(&self, row: usize) -> usize {
-        match self.rows.get(row) {
-            Some(row) => row.bodies.len(),
-            None => 0,
-        }
+        self.rows.get(row).map_or(0, |row| row.bodies.len())
     }
 
     fn write(&self, row: usize, place: usize, reply: &mut Buffer) -> usize {
-        let Some(row) = self.rows.get(row) else {
-            return fill(reply, &[]);
-        };
-        let Some(body) = row.bodies.get(place) else {
-            return fill(reply, &[]);
-        };
-        row.write(body.bytes(self.area.as_slice()), reply)
+        if let Some(row) = self.rows.get(row)
+            && let Some(body) = row.bodies.get(place)
+        {
+            row.write(body.bytes(&self.area), reply)
+        } else {
+            fill(reply, &[])
+        }
     }
 }

@@ -23,32 +23,14 @@ damages (Due.telegram t) = zero_garbled
 damages Due.collision = zero_garbled
 
 -- the due reply d, as n bytes in a buffer, of a bus b that has heard a request and so become b'
-module _ (b b' : Bus) (q : List ℕ) (n : ℕ) (buffer : List ℕ) (d : Due) (hears : b' ≡ heard q b) (is : d ≡ due_to q b) (size : length buffer ≡ 261) where
-  pub record Answered : Type 0 where
-    pub count : n ≡ length (arriving (due_to q b))
-    pub bytes : buffer ≡ filled (arriving (due_to q b))
-    pub exchanged : (s : State) → s.bus ≡ b → Exchanged s q n buffer (cleared s b')
-
-  pub answered : n ≡ length (arriving d) → buffer ≡ filled (arriving d) → Answered
+module _ (s : State) (b b' : Bus) (q : List ℕ) (n : ℕ) (buffer : List ℕ) (d : Due) (hears : b' ≡ heard q b) (is : d ≡ due_to q b) (size : length buffer ≡ 261) (at : s.bus ≡ b) where
+  pub answered : n ≡ length (arriving d) → buffer ≡ filled (arriving d) → Exchanged s q n buffer (cleared s b')
   answered count bytes =
-      record {
-        count = count ∙ ap (λ x. length (arriving x)) is;
-        bytes = bytes ∙ ap (λ x. filled (arriving x)) is;
-        exchanged = λ s at. exchanged_by (stands count bytes size) (Exchange.clean (record { arrives = subst (λ x. Arrives x (arriving d)) (is ∙ ap (due_to q) (sym at)) (arrives d); after = ap (cleared s) (hears ∙ ap (heard q) (sym at)) }));
-      }
+      exchanged_by (stands count bytes size) (Exchange.clean (record { arrives = subst (λ x. Arrives x (arriving d)) (is ∙ ap (due_to q) (sym at)) (arrives d); after = ap (cleared s) (hears ∙ ap (heard q) (sym at)) }))
 
-  pub record Spoilt : Type 0 where
-    pub count : n ≡ length (damaged (due_to q b))
-    pub bytes : buffer ≡ filled (damaged (due_to q b))
-    pub exchanged : (s : State) → s.bus ≡ b → s.streak < s.run → Exchanged s q n buffer (faulted s b')
-
-  pub spoilt : n ≡ length (damaged d) → buffer ≡ filled (damaged d) → Spoilt
-  spoilt count bytes =
-      record {
-        count = count ∙ ap (λ x. length (damaged x)) is;
-        bytes = bytes ∙ ap (λ x. filled (damaged x)) is;
-        exchanged = λ s at low. exchanged_by (stands count bytes size) (Exchange.damaged low (subst (λ x. Damages x (damaged d)) (is ∙ ap (due_to q) (sym at)) (damages d)) (ap (faulted s) (hears ∙ ap (heard q) (sym at))));
-      }
+  pub spoilt : n ≡ length (damaged d) → buffer ≡ filled (damaged d) → s.streak < s.run → Exchanged s q n buffer (faulted s b')
+  spoilt count bytes low =
+      exchanged_by (stands count bytes size) (Exchange.damaged low (subst (λ x. Damages x (damaged d)) (is ∙ ap (due_to q) (sym at)) (damages d)) (ap (faulted s) (hears ∙ ap (heard q) (sym at))))
 
 -- meters that have heard nothing are sound
 pub rest_sound : (ms : List Meter) (run : ℕ) → AllByRecursion Stocked ms → Sound (record { bus = at_rest ms; run = run; streak = 0 })

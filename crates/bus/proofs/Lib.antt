@@ -1,3 +1,4 @@
 pub mod Choosing
 pub mod Keeping
 pub mod Answering
+pub mod Sharing

@@ -3,6 +3,7 @@ use Rattle.std.specs.Prelude.{◌≡◌, ℕ, ◌<◌, List, [], ◌∷◌, leng
 use Rattle.std.specs.Option.{option_map}
 use Rattle.line.specs.Meters.{Meter}
 use Rattle.line.specs.Buses.{Bus}
+use Rattle.line.specs.Exchanges.{heard}
 use Rattle.bus.specs.declared.memory.Kept.{Kept}
 use Rattle.bus.specs.declared.memory.Memory.{Memory}
 use Rattle.bus.specs.declared.meter_bus.MeterBus.{MeterBus}
@@ -20,6 +21,11 @@ remembering ms m =
 -- the bus that a table with a memory is, where `meters` reads the table
 abbrev pub bus_of : {T : Type 0} → (T → List Meter) → MeterBus T → Bus
 bus_of meters x = remembering (meters x.table) x.memory
+
+-- a request is heard: the meters stay the same, and their memory is what hearing it makes of the old one
+pub record Hears {T : Type 0} (meters : T → List Meter) (request : List ℕ) (x x' : MeterBus T) : Type 0 where
+  pub table : x'.table ≡ x.table
+  pub bus : bus_of meters x' ≡ heard request (bus_of meters x)
 
 -- meters that have heard nothing yet
 abbrev pub at_rest : List Meter → Bus

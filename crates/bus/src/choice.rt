@@ -32,10 +32,9 @@ impl Choice {
 fn is_fit<T: Table>(table: &T, pattern: &Pattern, row: usize) -> bool
     ensures { MatchOption (slice_get (T.meters table.now) row) (result ≡ false) (λ m. result ≡ fits pattern.now.bytes m.address) }
 {
-    match table.address(row) {
-        Some(address) => pattern.fits(&address),
-        None => false,
-    }
+    table
+        .address(row)
+        .is_some_and(|address| pattern.fits(&address))
 }
 
 // The meters that the pattern fits.

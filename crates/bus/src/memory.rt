@@ -1,7 +1,8 @@
 // What meters remember from one request to the next.
-ghost use Rattle.std.specs.Prelude.{◌≡◌, List, Some};
+ghost use Rattle.std.specs.Prelude.{◌≡◌, ◌<◌, List, [], ◌∷◌, length, None, Some};
+ghost use Rattle.std.specs.Option.{option_map};
 ghost use Rattle.line.specs.Meters.{Meter};
-ghost use Rattle.line.specs.Buses.{due as due_after, fitting, hear as hearing, selected};
+ghost use Rattle.line.specs.Buses.{due as due_after, fetched, fitting, hear as hearing, holds as holding, selected};
 ghost use Rattle.bus.specs.Memories.{OnlyHas, Positive, remembering, turn_kept};
 ghost use Rattle.bus.specs.Replies.{due_from};
 
@@ -25,38 +26,48 @@ pub(crate) struct Memory {
 }
 
 impl Memory {
+    // No bit is kept yet.
+    pub(crate) fn new(selection: Option<Pattern>) -> Memory
+        ensures selection { result.selection ≡ selection }
+        ensures kept { result.kept ≡ None }
+    {
+        Memory {
+            selection,
+            kept: None,
+        }
+    }
+
+    // A fetch of the only selected meter, which has `count` telegrams: a new bit is kept, and the next telegram's turn comes.
+    fn fetch(&mut self, bit: bool, count: usize)
+        requires { 0 < count }
+        ensures { (ms : List Meter) (m : Meter) → count ≡ length m.telegrams → remembering ms self.new ≡ fetched (m ∷ []) bit (remembering ms self.old) }
+    {
+        if !self.holds(bit) {
+            let turn = self.turn() % count + 1;
+            self.kept = Some(Kept { bit, turn });
+        }
+    }
+
     // Changes what is kept by that and the request together. `only` is the number of telegrams of the only
     // selected meter, where there is exactly one.
+    #[tactic(auto, using(crate::proofs::Keeping::fetched_none, crate::proofs::Keeping::fetched_one), unfolding(line::specs::Buses::hear, line::specs::Buses::selected))]
     fn keep(&mut self, request: &Request, only: Option<usize>)
         requires { Positive only }
         ensures { (ms : List Meter) → OnlyHas (selected (remembering ms self.old)) only → remembering ms self.new ≡ hearing (Some request.now) (remembering ms self.old) }
     {
-        match (&mut self.kept, request) {
-            (kept, Request::Selection(pattern)) => {
-                *kept = None;
-                self.selection = Some(*pattern);
-            }
-            (kept, Request::Release) => {
-                *kept = None;
-                self.selection = None;
-            }
-            (Some(Kept { bit, turn }), Request::Fetch { bit: next }) => {
+        match request {
+            Request::Selection(pattern) => *self = Memory::new(Some(*pattern)),
+            Request::Release => *self = Memory::new(None),
+            Request::Fetch { bit } => {
                 if let Some(count) = only {
-                    if *bit != *next {
-                        *bit = *next;
-                        *turn = *turn % count + 1;
-                    }
-                }
-            }
-            (None, Request::Fetch { bit }) => {
-                if let Some(_) = only {
-                    self.kept = Some(Kept { bit: *bit, turn: 1 });
+                    self.fetch(*bit, count);
                 }
             }
         }
     }
 
     // Hears a request, or bytes that are none.
+    #[tactic(auto, unfolding(line::specs::Buses::hear, line::specs::Buses::selected))]
     pub(crate) fn hear<T: Table>(&mut self, table: &T, heard: &Option<Request>)
         ensures { remembering (T.meters table.now) self.new ≡ hearing heard.now (remembering (T.meters table.now) self.old) }
     {
@@ -66,29 +77,31 @@ impl Memory {
         }
     }
 
+    // Whether the bit is the one that is kept.
+    fn holds(&self, bit: bool) -> bool
+        ensures { result ≡ holding (option_map (λ k. k.bit) self.now.kept) bit }
+    {
+        self.kept.is_some_and(|kept| kept.bit == bit)
+    }
+
     // The number of the telegram that is sent, 0 if no bit is kept.
     fn turn(&self) -> usize
         ensures { result ≡ turn_kept self.now.kept }
     {
-        match self.kept {
-            Some(kept) => kept.turn,
-            None => 0,
-        }
+        self.kept.map_or(0, |kept| kept.turn)
     }
 
     // The reply that is due once a request was heard.
+    #[tactic(auto, unfolding(line::specs::Buses::due, line::specs::Buses::selected))]
     pub(crate) fn due<T: Table>(&self, table: &T, heard: &Option<Request>) -> DueReply
         ensures { due_from (T.meters table.now) result ≡ due_after heard.now (remembering (T.meters table.now) self.now) }
     {
-        let Some(request) = heard else {
-            return DueReply::Silence;
-        };
-        match request {
-            Request::Selection(_) => DueReply::to_selection(chosen(table, &self.selection)),
-            Request::Fetch { bit: _ } => {
+        match heard {
+            Some(Request::Selection(_)) => DueReply::to_selection(chosen(table, &self.selection)),
+            Some(Request::Fetch { bit: _ }) => {
                 DueReply::to_fetch(chosen(table, &self.selection), self.turn())
             }
-            Request::Release => DueReply::Silence,
+            Some(Request::Release) | None => DueReply::Silence,
         }
     }
 }

@@ -1,8 +1,8 @@
 // A table of meters with what they remember, and one exchange with them: without a fault, or with one of three faults.
 ghost use Rattle.std.specs.Prelude.{◌≡◌, ℕ, ◌<◌, List, [], length};
 ghost use Rattle.link.specs.Buffers.{filled};
-ghost use Rattle.line.specs.Exchanges.{Exchanged, State, cleared, due_to, faulted, heard};
-ghost use Rattle.bus.specs.Memories.{at_rest, bus_of};
+ghost use Rattle.line.specs.Exchanges.{Exchanged, State, cleared, due_to, faulted};
+ghost use Rattle.bus.specs.Memories.{Hears, at_rest, bus_of};
 ghost use Rattle.bus.specs.Replies.{arriving, damaged, due_from};
 
 use crate::due::{DueReply, damage, deliver};
@@ -23,10 +23,7 @@ impl<T: Table> MeterBus<T> {
         ensures table { result.table ≡ table }
         ensures bus { bus_of T.meters result ≡ at_rest (T.meters table) }
     {
-        let memory = Memory {
-            selection: None,
-            kept: None,
-        };
+        let memory = Memory::new(None);
         MeterBus { table, memory }
     }
 
@@ -39,8 +36,7 @@ impl<T: Table> MeterBus<T> {
 
     // Hears a request. The reply that is due then.
     fn hear(&mut self, request: &[u8]) -> DueReply
-        ensures table { self.new.table ≡ self.old.table }
-        ensures bus { bus_of T.meters self.new ≡ heard request.now (bus_of T.meters self.old) }
+        ensures hears { Hears T.meters request.now self.old self.new }
         ensures due { due_from (T.meters self.new.table) result ≡ due_to request.now (bus_of T.meters self.old) }
     {
         let heard = Request::read(request);
@@ -51,8 +47,7 @@ impl<T: Table> MeterBus<T> {
     // The request is heard, and the due reply arrives. Fills the buffer with it and then 00, and answers the count
     // of its bytes. Several replies at once arrive as the byte 00.
     pub fn answer(&mut self, request: &[u8], reply: &mut Buffer) -> usize
-        ensures table { self.new.table ≡ self.old.table }
-        ensures bus { bus_of T.meters self.new ≡ heard request.now (bus_of T.meters self.old) }
+        ensures hears { Hears T.meters request.now self.old self.new }
         ensures buffer { reply.new ≡ filled (arriving (due_to request.now (bus_of T.meters self.old))) }
         ensures count { result ≡ length (arriving (due_to request.now (bus_of T.meters self.old))) }
         ensures exchanged { (s : State) → s.bus ≡ bus_of T.meters self.old → Exchanged s request.now result reply.new (cleared s (bus_of T.meters self.new)) }
@@ -72,8 +67,7 @@ impl<T: Table> MeterBus<T> {
 
     // The request is heard, and the reply is lost on its way back: the buffer is all 00.
     pub fn lose_reply(&mut self, request: &[u8], reply: &mut Buffer) -> usize
-        ensures table { self.new.table ≡ self.old.table }
-        ensures bus { bus_of T.meters self.new ≡ heard request.now (bus_of T.meters self.old) }
+        ensures hears { Hears T.meters request.now self.old self.new }
         ensures buffer { reply.new ≡ filled [] }
         ensures count { result ≡ 0 }
         ensures exchanged { (s : State) → s.bus ≡ bus_of T.meters self.old → s.streak < s.run → Exchanged s request.now result reply.new (faulted s (bus_of T.meters self.new)) }
@@ -84,8 +78,7 @@ impl<T: Table> MeterBus<T> {
 
     // The request is heard, and the reply is damaged on its way back: the byte 00 arrives in its place.
     pub fn damage_reply(&mut self, request: &[u8], reply: &mut Buffer) -> usize
-        ensures table { self.new.table ≡ self.old.table }
-        ensures bus { bus_of T.meters self.new ≡ heard request.now (bus_of T.meters self.old) }
+        ensures hears { Hears T.meters request.now self.old self.new }
         ensures buffer { reply.new ≡ filled (damaged (due_to request.now (bus_of T.meters self.old))) }
         ensures count { result ≡ length (damaged (due_to request.now (bus_of T.meters self.old))) }
         ensures exchanged { (s : State) → s.bus ≡ bus_of T.meters self.old → s.streak < s.run → Exchanged s request.now result reply.new (faulted s (bus_of T.meters self.new)) }

@@ -1,18 +1,15 @@
 -- What a reply telegram tells of itself: its length, and the address that it carries.
-use Rattle.std.proofs.Common.{◌≡◌, ℕ, ◌+◌, ◌/◌, ◌%◌, ◌≤◌, true, not, List, [], ◌∷◌, ◌++◌, length, get_or, is_some, Some, None, Option, sym, refl, ap, ◌∙◌, arith}
-use Rattle.std.specs.List.{between}
-use Rattle.std.proofs.lemmas.List.{append_assoc}
+use Rattle.std.proofs.Common.{◌≡◌, ℕ, ◌+◌, ◌≤◌, true, not, List, length, get_or, is_some, Some, None, Option, sym, refl, ap, ◌∙◌, arith}
 use Rattle.std.proofs.lemmas.Bool.Decides.{nat_tests}
 use Rattle.link.specs.declared.fault.Report.{Report}
 use Rattle.link.specs.Checks.{first_fault}
-use Rattle.link.specs.Frames.{checksum, frame_checks, written}
-use Rattle.link.proofs.Lists.{between_at}
-use Rattle.link.proofs.Ordering.{first_joined, or_else}
+use Rattle.link.specs.Frames.{frame_checks, written}
+use Rattle.link.proofs.Ordering.{first_joined}
 use Rattle.telegram.specs.declared.reply.Reply.{Reply}
 use Rattle.telegram.specs.Addresses.{address_bytes}
 use Rattle.telegram.specs.Replies.{body_of, is_reply, reply_parts, reply_refusal, telegram_checks}
-use Rattle.telegram.proofs.Writing.{address_size}
 use Rattle.line.specs.Meters.{address_in}
+use Rattle.bus.proofs.Sharing.{neither, written_carries}
 
 -- a reply telegram
 abbrev pub Telegram : List ℕ → Type 0
@@ -24,16 +21,12 @@ reply_from t h = ap (λ o. not (is_some o)) h
 
 none_from : (o : Option Report) → not (is_some o) ≡ true → o ≡ None
 none_from None h = refl
-none_from (Some r) h = let z : ◌≡◌ {A = ℕ} 0 1 = cc in absurd (omega arith)
+none_from (Some r) h = absurd cc
 
 -- a reply telegram is not refused
 pub unrefused : (t : List ℕ) → Telegram t → reply_refusal t ≡ None
 unfolding is_reply
 unrefused t h = none_from (reply_refusal t) h
-
-neither : (o p : Option Report) → or_else o p ≡ None → (o ≡ None) × (p ≡ None)
-neither None p e = (refl, e)
-neither (Some r) p e = let z : ◌≡◌ {A = ℕ} 0 1 = cc in absurd (omega arith)
 
 module _ (t : List ℕ) (f : first_fault (frame_checks t) ≡ None) (l : first_fault (telegram_checks t) ≡ None) where
   start_is : get_or t 0 0 ≡ 0x68
@@ -51,15 +44,6 @@ unfolding reply_refusal
 reply_length t h =
     let p = neither (first_fault (frame_checks t)) (first_fault (telegram_checks t)) (sym (first_joined (frame_checks t) (telegram_checks t)) ∙ unrefused t h) in
     (size_is t p.0 p.1, least t p.0 p.1)
-
-written_carries : (t : Reply) (body : List ℕ) → address_in (written (reply_parts t body)) ≡ address_bytes t.address
-written_carries t body =
-    let a : List ℕ = address_bytes t.address in
-    let rest : List ℕ = t.access ∷ t.status ∷ (t.signature % 256) ∷ (t.signature / 256) ∷ body in
-    let n : ℕ = length (a ++ rest) + 3 in
-    let end : List ℕ = checksum (0x08 ∷ t.primary ∷ 0x72 ∷ (a ++ rest)) ∷ 0x16 ∷ [] in
-    let front : List ℕ = 0x68 ∷ n ∷ n ∷ 0x68 ∷ 0x08 ∷ t.primary ∷ 0x72 ∷ [] in
-    ap (λ x. between 7 15 (front ++ x)) (append_assoc a rest end) ∙ between_at front a (rest ++ end) 7 15 refl (omega (arith, address_size t.address))
 
 -- the address that was read is the one that the bytes carry
 pub address_read : (t : Reply) (bs : List ℕ) → written (reply_parts t (body_of bs)) ≡ bs → address_bytes t.address ≡ address_in bs

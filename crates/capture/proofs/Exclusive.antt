@@ -121,7 +121,7 @@ never (Reply f) bs ms rest (t ∷ more) a n h e hb ab hm b =
     let first : first_telegram rest ≡ t = ap first_telegram (sym a) ∙ telegram_first t (end_to_end more) h.0 in
     let none : reply_refusal t ≡ None = unrefused t h.0 in
     let told = b.told in
-    let z : ◌≡◌ {A = ℕ} 0 1 = cc in omega arith
+    absurd cc
 never Size bs ms rest (t ∷ more) a n h e hb ab hm b =
     let first : first_telegram rest ≡ t = ap first_telegram (sym a) ∙ telegram_first t (end_to_end more) h.0 in
     crowded_out t more bs ms hb hm.stocked ab hm.apart hm.few (subst (λ x. Crowded bs (address_in x)) first b.1) e

@@ -1,6 +1,6 @@
 -- Reading one telegram after the other.
-use Rattle.std.proofs.Common.{◌≡◌, ℕ, ◌+◌, ◌<◌, ◌≤◌, List, [], ◌++◌, length, take, drop, Some, sym, refl, ap, ◌∙◌, subst, arith, take-add}
-use Rattle.std.proofs.lemmas.List.{length_push, length-drop, take-append-drop}
+use Rattle.std.proofs.Common.{◌≡◌, ℕ, ◌+◌, ◌<◌, List, [], ◌++◌, length, take, drop, Some, sym, refl, ap, ◌∙◌, subst, arith, take-add}
+use Rattle.std.proofs.lemmas.List.{length-drop, take-append-drop}
 use Rattle.line.specs.Meters.{Meter, address_in}
 use Rattle.capture.specs.Cutting.{Took, telegram_from}
 use Rattle.capture.specs.Recordings.{Blocked, Recorded, Refusal, telegrams_of}
@@ -9,8 +9,8 @@ use Rattle.capture.specs.declared.row.Row.{Row}
 use Rattle.capture.specs.declared.fault.Cause.{Cause}
 use Rattle.capture.specs.declared.fault.Cause.TheVariants.{Size, Reply}
 use Rattle.capture.specs.declared.fault.CaptureFault.{CaptureFault}
-use Rattle.capture.proofs.Cuts.{length_telegram, take_length, end_within}
-use Rattle.capture.proofs.Growing.{added_telegrams, added_recorded}
+use Rattle.capture.proofs.Cuts.{take_length}
+use Rattle.capture.proofs.Growing.{added_recorded}
 use Rattle.capture.proofs.Carrying.{reply_from}
 
 module _ (bytes : List ℕ) (at : ℕ) (ms : List Meter) where
@@ -23,16 +23,6 @@ module _ (bytes : List ℕ) (at : ℕ) (ms : List Meter) where
       record { sound = t.sound; added = subst (λ x. Added ms (telegram_from bytes at) x ms') t.carried h; moved = t.moved }
 
   module _ (next : ℕ) (ms' : List Meter) (f : Followed bytes at ms next ms') where
-    pub followed_count : length (telegrams_of ms') ≡ length (telegrams_of ms) + 1
-    followed_count =
-        ap length (added_telegrams ms ms' (telegram_from bytes at) (address_in (telegram_from bytes at)) f.added) ∙ length_push (telegrams_of ms) (telegram_from bytes at)
-
-    pub followed_moves : at < length bytes → at < next
-    followed_moves h = omega (arith, f.moved, length_telegram bytes at)
-
-    pub followed_within : at ≤ length bytes → next ≤ length bytes
-    followed_within h = omega (arith, f.moved, end_within bytes at h)
-
     front_is : take next bytes ≡ take at bytes ++ telegram_from bytes at
     front_is =
         ap (λ n. take n bytes) f.moved ∙ take-add at (length (telegram_from bytes at)) bytes ∙ ap (λ x. take at bytes ++ x) (take_length _ (drop at bytes))
@@ -42,15 +32,15 @@ module _ (bytes : List ℕ) (at : ℕ) (ms : List Meter) where
         subst (λ x. Recorded x ms') (sym front_is)
         (added_recorded (take at bytes) ms ms' (telegram_from bytes at) (address_in (telegram_from bytes at)) h (reply_from (telegram_from bytes at) f.sound) refl f.added)
 
-  pub refused : (e : CaptureFault) (number : ℕ) → Recorded (take at bytes) ms → at < length bytes → e.telegram ≡ Some number → number ≡ length (telegrams_of ms) + 1 → Blocked ms (telegram_from bytes at) e.cause → Refusal bytes e
-  refused e number h l n k b =
+  pub refused : (e : CaptureFault) → Recorded (take at bytes) ms → at < length bytes → e.telegram ≡ Some (length (telegrams_of ms) + 1) → Blocked ms (telegram_from bytes at) e.cause → Refusal bytes e
+  refused e h l n b =
       record {
         before = ms;
         rest = drop at bytes;
         split = sym (ap (λ x. x ++ drop at bytes) h.whole ∙ take-append-drop at bytes);
         some_left = omega (arith, length-drop at bytes);
         taken = subst (λ x. Recorded x ms) (sym h.whole) h;
-        number = n ∙ ap Some k;
+        number = n;
         blocked = b;
       }
 
@@ -59,7 +49,3 @@ unfolding meters_of
 recorded_none bytes rows e =
     let P : List Row → Type 0 = λ x. Recorded [] (meters_of bytes x) in
     subst P (sym e) (record { whole = refl; apart = tt; stocked = tt; few = omega arith })
-
-pub count_none : (bytes : List ℕ) (rows : List Row) → rows ≡ [] → 0 ≡ length (telegrams_of (meters_of bytes rows))
-unfolding meters_of
-count_none bytes rows e = ap (λ x. length (telegrams_of (meters_of bytes x))) (sym e)

@@ -6,4 +6,5 @@ pub mod Following
 pub mod Unique
 pub mod Exclusive
 pub mod Tabling
+pub mod Totals
 pub mod Making

@@ -1,5 +1,5 @@
 -- The meters that the rows of a capture stand for, and one telegram more.
-use Rattle.std.specs.Prelude.{◌≡◌, ℕ, ◌+◌, ◌<◌, List, [], ◌∷◌, ◌++◌, map, length, take, None}
+use Rattle.std.specs.Prelude.{◌≡◌, ℕ, ◌+◌, ◌<◌, List, [], ◌∷◌, ◌++◌, map, length, None}
 use Rattle.telegram.specs.Addresses.{address_bytes}
 use Rattle.telegram.specs.Replies.{reply_refusal}
 use Rattle.line.specs.Meters.{Meter, address_in}
@@ -11,7 +11,7 @@ use Rattle.capture.specs.Recordings.{Crowded, Unlike}
 
 -- where a meter's telegrams start
 abbrev pub places : Row → List ℕ
-places r = take r.count r.starts
+places r = r.starts.items
 
 unfoldable pub meter_of : List ℕ → Row → Meter
 meter_of bytes r = record { address = address_bytes r.address; telegrams = map (telegram_from bytes) (places r) }

@@ -7,5 +7,6 @@ mod index;
 mod reader;
 mod recording;
 mod row;
+mod rows;
 pub mod store;
 mod table;

@@ -7,12 +7,14 @@ use telegram::address::Address;
 use telegram::fault::ReplyFault;
 use telegram::reply::Reply;
 
-// The bytes from `at` to `end` are to be read.
+// The bytes from `at` to `end` are to be read. Between two telegrams the end is that of all bytes.
 #[derive(Drop)]
 pub(crate) struct Reader<'a> {
     pub(crate) bytes: &'a [u8],
     pub(crate) at: usize,
     pub(crate) end: usize,
+    ghost within: { at ≤ end },
+    ghost whole: { end ≡ length bytes.now },
 }
 
 // A reader's end, which stands at the end of one telegram until this is dropped, and then at the end of all bytes.
@@ -45,20 +47,19 @@ impl Drop for Narrowed<'_, '_> {
 
 // Where the telegram that starts at a place ends: 6 past its second byte's value, or with the bytes if that is nearer
 // or if there is no second byte.
+#[tactic(auto, using(crate::proofs::Cuts::length_telegram))]
 fn telegram_end(bytes: &[u8], at: usize) -> usize
     requires { at ≤ length bytes.now }
     ensures end { result ≡ at + length (telegram_from bytes.now at) }
     ensures few { result ≤ at + 261 }
 {
-    let left = bytes.len() - at;
-    if left < 2 {
-        return bytes.len();
-    }
-    let size = 6 + bytes[at + 1] as usize;
-    if size < left { at + size } else { bytes.len() }
+    bytes.get(at + 1).map_or(bytes.len(), |size| {
+        bytes.len().min(at + 6 + *size as usize)
+    })
 }
 
 // The telegram that starts at a place.
+#[tactic(auto, using(crate::proofs::Cuts::end_within, crate::proofs::Cuts::part_is))]
 pub(crate) fn telegram_at(bytes: &[u8], at: usize) -> &[u8]
     requires { at ≤ length bytes.now }
     ensures bytes { result.now ≡ telegram_from bytes.now at }
@@ -71,7 +72,6 @@ impl<'a> Reader<'a> {
     pub(crate) fn new(bytes: &'a [u8]) -> Reader<'a>
         ensures bytes { result.bytes.now ≡ bytes.now }
         ensures at { result.at ≡ 0 }
-        ensures end { result.end ≡ length bytes.now }
     {
         Reader {
             bytes,
@@ -83,10 +83,7 @@ impl<'a> Reader<'a> {
     // Reads the telegram at the reader's place, answers the address that it carries, and moves past it.
     // At a fault the reader stays. Either way its end stands at the end of the bytes again.
     pub(crate) fn next(&mut self) -> Result<Address, ReplyFault>
-        requires within { self.old.at ≤ self.old.end }
-        requires whole { self.old.end ≡ length self.old.bytes.now }
         ensures bytes { self.new.bytes.now ≡ self.old.bytes.now }
-        ensures end { self.new.end ≡ length self.old.bytes.now }
         ensures taken { MatchResult result (λ a. Took self.old.bytes.now self.old.at (address_bytes a) self.new.at) (λ e. Stuck self.old.bytes.now self.old.at e self.new.at) }
     {
         let start = self.at;

@@ -13,31 +13,29 @@ impl Table for Recording {
 
     ghost stocked = { λ t. stocked_out (meters_of t.bytes.items t.rows.items) t.stocked };
 
+    #[tactic(auto, unfolding(crate::specs::Rows::meters_of))]
     fn count(&self) -> usize {
         self.rows.len()
     }
 
+    #[tactic(auto, unfolding(crate::specs::Rows::meter_of, crate::specs::Rows::meters_of))]
     fn address(&self, row: usize) -> Option<Address> {
-        match self.rows.get(row) {
-            Some(row) => Some(row.address),
-            None => None,
-        }
+        self.rows.get(row).map(|row| row.address)
     }
 
+    #[tactic(auto, unfolding(crate::specs::Rows::meter_of, crate::specs::Rows::meters_of))]
     fn telegrams(&self, row: usize) -> usize {
-        match self.rows.get(row) {
-            Some(row) => row.count,
-            None => 0,
-        }
+        self.rows.get(row).map_or(0, |row| row.starts.len())
     }
 
+    #[tactic(auto, unfolding(crate::specs::Rows::meter_of, crate::specs::Rows::meters_of))]
     fn write(&self, row: usize, place: usize, reply: &mut Buffer) -> usize {
-        let Some(row) = self.rows.get(row) else {
-            return fill(reply, &[]);
-        };
-        if place >= row.count {
-            return fill(reply, &[]);
+        if let Some(row) = self.rows.get(row)
+            && let Some(start) = row.starts.get(place)
+        {
+            fill(reply, telegram_at(&self.bytes, *start))
+        } else {
+            fill(reply, &[])
         }
-        fill(reply, telegram_at(self.bytes.as_slice(), row.starts[place]))
     }
 }

@@ -10,6 +10,8 @@ use crate::fault_codes::Code;
 use line::line::Line;
 use link::buffer::Buffer;
 
+// Not shared with a capture: a generic line would be given what it means and why it is sound, which is all that
+// these members say.
 impl Line for Bench {
     ghost means = { meaning };
 

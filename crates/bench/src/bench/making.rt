@@ -18,6 +18,7 @@ use bus::table::Table;
 
 impl Bench {
     // A bench whose meters have heard nothing, or the first fault of what it is to be made from.
+    #[tactic(auto, using(crate::proofs::Ordering::order_of, crate::proofs::Making::decided, crate::proofs::Stretches::longest_is, crate::proofs::Making::accepted))]
     pub fn new(rows: Vec<Row>, area: Vec<u8>, codes: Vec<u8>) -> Result<Bench, BenchFault>
         ensures fault { bench_fault result ≡ bench_refusal rows.items area.items codes.items }
         ensures order { FailsFirst (bench_checks rows.items area.items codes.items) (bench_fault result) }
@@ -25,7 +26,7 @@ impl Bench {
         ensures bench { IfOk result (New rows.items area.items codes.items) }
         ensures run { Longest codes.items (longest codes.items) }
     {
-        check(rows.as_slice(), area.as_slice(), codes.as_slice())?;
+        check(&rows, &area, &codes)?;
         let bus = MeterBus::new(RowTable { rows, area });
         let faults = FaultCodes { codes, position: 0 };
         Ok(Bench { bus, faults })

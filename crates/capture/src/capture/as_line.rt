@@ -9,6 +9,8 @@ use super::Capture;
 use line::line::Line;
 use link::buffer::Buffer;
 
+// Not shared with a bench: a generic line would be given what it means and why it is sound, which is all that
+// these members say.
 impl Line for Capture {
     ghost means = { meaning };
 

@@ -5,9 +5,11 @@ ghost use Rattle.capture.specs.Captures.{Opened, Refuses, capture_meters};
 ghost use Rattle.capture.specs.Recordings.{telegrams_of};
 
 use super::Capture;
-use crate::fault::{CaptureFault, Cause};
+use crate::fault::CaptureFault;
 use crate::index::read_all;
 use crate::recording::Recording;
+use crate::row::TOO_MANY;
+use crate::rows::Rows;
 use crate::store::Store;
 use bus::meter_bus::MeterBus;
 use bus::table::Table;
@@ -20,10 +22,7 @@ fn check_size(bytes: usize) -> Result<(), CaptureFault>
     ensures { MatchResult result (λ _. bytes ≤ 60000) (λ e. (60000 < bytes) × (e.telegram ≡ None) × (e.cause ≡ Size)) }
 {
     if bytes > MOST_BYTES {
-        return Err(CaptureFault {
-            telegram: None,
-            cause: Cause::Size,
-        });
+        return Err(TOO_MANY);
     }
     Ok(())
 }
@@ -35,13 +34,10 @@ impl Capture {
         ensures { MatchResult result (λ c. Opened bytes.items c) (λ e. Refuses bytes.items e) }
     {
         check_size(bytes.len())?;
-        let index = read_all(store, bytes.as_slice())?;
-        let telegrams = index.telegrams;
-        let recording = Recording {
-            bytes,
-            rows: index.rows,
-        };
-        let bus = MeterBus::new(recording);
+        let rows = read_all(store, &bytes)?;
+        let telegrams = rows.telegrams();
+        let Rows { list } = rows;
+        let bus = MeterBus::new(Recording { bytes, rows: list });
         Ok(Capture { bus, telegrams })
     }
 

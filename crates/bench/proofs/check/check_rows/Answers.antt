@@ -1,18 +1,14 @@
-use Rattle.std.proofs.Common.{sym, ap, ◌∙◌, arith}
+use Rattle.std.proofs.Common.{◌≡◌, not, rules}
+use borrow.Author.Tests.{tests}
+use Rattle.std.specs.List.{position}
+use Rattle.std.proofs.lemmas.Iterator.{YieldsList-from_slice}
+use Rattle.std.proofs.lemmas.Iterator.Search.{position_from_yields_List}
 use Rattle.bench.specs.Rows.{row_fits}
-use Rattle.bench.proofs.Listing.{numbered_end, numbered_no, numbered_yes}
+use Rattle.bench.proofs.Listing.{first_told}
 use Rattle.bench.proofs.check.check_rows.Goals as goal
-
-pub returns-then-not-fits : goal.returns-then-not-fits
-returns-then-not-fits c =
-    let fits = row_fits c.args.size in
-    numbered_no fits c.args.rows.now c.loop-number.number c.index-rows-number.result (omega arith) (ap fits (sym c.index-rows-number.is) ∙ sym c.if-not-fits.ensures) ∙ c.loop-number.invariant
-
-pub loop-number-preserved : goal.loop-number-preserved
-loop-number-preserved c =
-    let fits = row_fits c.args.size in
-    numbered_yes fits c.args.rows.now c.loop-number.number c.index-rows-number.result (omega arith) (ap fits (sym c.index-rows-number.is) ∙ sym c.if-not-fits.ensures) ∙ c.loop-number.invariant
 
 pub returns : goal.returns
 returns c =
-    numbered_end (row_fits c.args.size) c.args.rows.now c.loop-number.number (omega arith) ∙ c.loop-number.invariant
+    let e : c.position.result ≡ position (λ x. not (row_fits c.args.size x)) c.args.rows.now =
+    position_from_yields_List (λ x. not (row_fits c.args.size x)) _ _ c.position.result c.position.ensures.ran (YieldsList-from_slice _ c.iter.ensures.rest) (λ x b q k. search (rules, tests)) in
+    first_told (row_fits c.args.size) c.args.rows.now c.position.result _ e (search (rules, c.map_or.ensures))

@@ -3,7 +3,7 @@ use Rattle.telegram.specs.Patterns.{fits}
 use Rattle.line.specs.Meters.{Meter}
 use Rattle.bus.specs.declared.choice.Choice.{Choice}
 use Rattle.bus.specs.Choices.{Tells}
-use Rattle.bus.proofs.Choosing.{at_row, tells_fit, tells_unfit, tells_all}
+use Rattle.bus.proofs.Choosing.{at_row, tells_fit, tells_unfit}
 use Rattle.bus.proofs.choice.choose.Goals as goal
 use Rattle.bus.proofs.choice.choose.Goals.{then-is_fit, else-is_fit}
 
@@ -18,7 +18,3 @@ loop-row-preserved g c =
       | then-is_fit w ↦ subst P (sym (w.choice-is ∙ w.and-choice.ensures)) (tells_fit p ms i low c.loop-row.choice (at_row p ms i low true w.if-is_fit.ensures) c.loop-row.invariant)
       | else-is_fit w ↦ subst P (sym w.choice-is) (tells_unfit p ms i low c.loop-row.choice (at_row p ms i low false w.if-is_fit.ensures) c.loop-row.invariant)
     ]
-
-pub returns : goal.returns
-returns g c =
-    tells_all (λ m. fits c.args.pattern.now.bytes m.address) (g.T.Table.meters c.args.table.now) c.loop-row.row c.loop-row.choice (omega arith) c.loop-row.invariant
