@@ -1,6 +1,5 @@
 // A reading.
 use crate::hex::Hex;
-use quantity::unit::Unit;
 use record::reading::{Reading, Value};
 use std::fmt;
 
@@ -10,29 +9,6 @@ pub struct ReadingLine<'a> {
     pub reading: Reading,
     pub vifes: &'a [u8],
     pub text: &'a [u8],
-}
-
-fn unit_name(unit: Unit) -> &'static str {
-    match unit {
-        Unit::Unitless => "-",
-        Unit::WattHour => "Wh",
-        Unit::Joule => "J",
-        Unit::CubicMetre => "m3",
-        Unit::Kilogram => "kg",
-        Unit::Second => "s",
-        Unit::Minute => "min",
-        Unit::Hour => "h",
-        Unit::Day => "d",
-        Unit::Watt => "W",
-        Unit::JoulePerHour => "J/h",
-        Unit::CubicMetrePerHour => "m3/h",
-        Unit::CubicMetrePerMinute => "m3/min",
-        Unit::CubicMetrePerSecond => "m3/s",
-        Unit::KilogramPerHour => "kg/h",
-        Unit::Celsius => "C",
-        Unit::Kelvin => "K",
-        Unit::Bar => "bar",
-    }
 }
 
 // The form and the figure of a value.
@@ -68,14 +44,14 @@ impl fmt::Display for ReadingLine<'_> {
             "kind=reading place={place} storage={storage} tariff={tariff} sub={sub} "
         )?;
         let function = reading.function as u8;
-        let quantity = reading.meaning.quantity.number();
+        let quantity = u8::from(reading.meaning.quantity);
         let figure = Figure {
             value: reading.value,
             text: self.text,
         };
         write!(f, "function={function} quantity={quantity} {figure} ")?;
         let power = reading.meaning.power;
-        let unit = unit_name(reading.meaning.unit);
+        let unit = reading.meaning.unit;
         let vifes = Hex(self.vifes);
         write!(f, "power={power} unit={unit} vifes={vifes}")
     }

@@ -1,6 +1,6 @@
 -- The table of VIF codes, the low seven bits of a VIF: which quantity each row of codes states, in which unit,
 -- and with which power of ten.
-use Rattle.std.specs.Prelude.{ℕ, ◌+◌, ◌%◌, ◌≤◌, Bool, cond, ◌&&◌, ◌||◌, List, [], ◌∷◌, ℤ, pos, ◌-ℤ◌, Some, None, Option, ◌==◌, nat_le, nat_lt}
+use Rattle.std.specs.Prelude.{ℕ, ◌+◌, ◌%◌, ◌≤◌, Bool, cond, ◌&&◌, ◌||◌, List, [], ◌∷◌, ℤ, pos, ◌-ℤ◌, Some, None, Option, ◌==◌, find, nat_le, nat_lt}
 use Rattle.quantity.specs.declared.meaning.Meaning.{Meaning}
 use Rattle.quantity.specs.declared.quantity.Quantity.{Quantity}
 use Rattle.quantity.specs.declared.quantity.Quantity.TheVariants as quantity
@@ -12,7 +12,7 @@ use Rattle.quantity.specs.declared.unit.Unit.TheVariants as u
 
 -- a row: its first code, how many codes it has, their quantity, and how unit and power go by n
 abbrev pub row : ℕ → ℕ → Quantity → Scale → Row
-row first count q s = (first, count, q, s)
+row first count q s = record { first = first; count = count; quantity = q; scale = s }
 
 abbrev pub table : List Row
 table =
@@ -47,18 +47,18 @@ table =
     ∷ []
 
 abbrev pub first_code : Row → ℕ
-first_code r = r.0
+first_code r = r.first
 
 -- the code after the last
 abbrev pub next_code : Row → ℕ
-next_code r = r.0 + r.1
+next_code r = r.first + r.count
 
 abbrev pub has : ℕ → Row → Bool
 has c r = nat_le (first_code r) c && nat_lt c (next_code r)
 
 -- n is the low three bits of a code in a row of eight, the low two in a row of four
 abbrev pub n_of : ℕ → Row → ℕ
-n_of c r = c % r.1
+n_of c r = c % r.count
 
 abbrev pub time_unit : ℕ → unit.Unit
 time_unit n = cond (n == 0) u.Second (cond (n == 1) u.Minute (cond (n == 2) u.Hour u.Day))
@@ -75,12 +75,11 @@ power_by Time n = pos 0
 power_by Plain n = pos 0
 
 abbrev pub row_meaning : ℕ → Row → Meaning
-row_meaning c r = record { quantity = r.2; unit = unit_by r.3 (n_of c r); power = power_by r.3 (n_of c r) }
+row_meaning c r = record { quantity = r.quantity; unit = unit_by r.scale (n_of c r); power = power_by r.scale (n_of c r) }
 
 -- the first row that has a code
 abbrev pub row_with : ℕ → List Row → Option Row
-row_with c [] = None
-row_with c (r ∷ rs) = cond (has c r) (Some r) (row_with c rs)
+row_with c rs = find (has c) rs
 
 abbrev pub meaning_at : ℕ → Option Row → Option Meaning
 meaning_at c None = None
@@ -101,4 +100,4 @@ lowered Plain = 0
 
 -- no power of the row is below -9
 abbrev pub Moderate : Row → Type 0
-Moderate r = lowered r.3 ≤ 9
+Moderate r = lowered r.scale ≤ 9

@@ -33,18 +33,17 @@ fn unit_of_time(n: u8) -> Unit
 
 // The meaning of a code of the row.
 fn meaning_in(row: Row, code: u8) -> Meaning
-    requires { (has code row ≡ true) × ((n_of code row ≡ code - first_code row) × ((row.1 ≤ 8) × (Moderate row))) }
+    requires { (has code row ≡ true) × ((n_of code row ≡ code - first_code row) × ((row.count ≤ 8) × (Moderate row))) }
     ensures { result ≡ row_meaning code row }
 {
-    let Row(first, _, quantity, scale) = row;
-    let n = code - first;
-    let (unit, power) = match scale {
+    let n = code - row.first;
+    let (unit, power) = match row.scale {
         Scale::Tens(unit, less) => (unit, n as i8 - less as i8),
         Scale::Time => (unit_of_time(n), 0),
         Scale::Plain => (Unit::Unitless, 0),
     };
     Meaning {
-        quantity,
+        quantity: row.quantity,
         unit,
         power,
     }

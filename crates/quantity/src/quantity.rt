@@ -34,10 +34,10 @@ pub enum Quantity {
     ManufacturerSpecific,
 }
 
-impl Quantity {
-    pub fn number(self) -> u8
-        ensures { result ≡ quantity_number self }
-    {
-        self as u8
+impl From<Quantity> for u8 {
+    ghost from_gives = { λ quantity number. number ≡ quantity_number quantity };
+
+    fn from(quantity: Quantity) -> u8 {
+        quantity as u8
     }
 }

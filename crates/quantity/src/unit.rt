@@ -1,4 +1,5 @@
 // The units of the quantities.
+use std::fmt;
 
 #[derive(Clone, Copy)]
 pub enum Unit {
@@ -20,4 +21,29 @@ pub enum Unit {
     Celsius,
     Kelvin,
     Bar,
+}
+
+impl fmt::Display for Unit {
+    fn fmt<W: fmt::Write>(&self, f: &mut fmt::Formatter<W>) -> fmt::Result {
+        f.write_str(match self {
+            Unit::Unitless => "-",
+            Unit::WattHour => "Wh",
+            Unit::Joule => "J",
+            Unit::CubicMetre => "m3",
+            Unit::Kilogram => "kg",
+            Unit::Second => "s",
+            Unit::Minute => "min",
+            Unit::Hour => "h",
+            Unit::Day => "d",
+            Unit::Watt => "W",
+            Unit::JoulePerHour => "J/h",
+            Unit::CubicMetrePerHour => "m3/h",
+            Unit::CubicMetrePerMinute => "m3/min",
+            Unit::CubicMetrePerSecond => "m3/s",
+            Unit::KilogramPerHour => "kg/h",
+            Unit::Celsius => "C",
+            Unit::Kelvin => "K",
+            Unit::Bar => "bar",
+        })
+    }
 }

@@ -1,9 +1,8 @@
--- Numbers by their digits: the steps of the loops that read them from the highest digit down, and what they sum up to.
-use Rattle.std.proofs.Common.{◌≡◌, ℕ, zero, suc, ◌+◌, ◌-◌, ◌*◌, ◌/◌, ◌%◌, ◌^◌, ◌<◌, ◌≤◌, List, [], ◌∷◌, length, get_or, drop, sym, refl, ap, ◌∙◌, mul-le-mul_right, mul_assoc, mul_comm, add-mul, mul-le-mul_left, pow-suc, mul-zero, mul-suc, mul-add, add-one, arith, length-set, pow-add}
-use native.Mathlib.Nat.{pow-zero, pow-le-pow_right}
-use lib.Seq.{drop-length}
-use Rattle.std.proofs.lemmas.List.{drop_more}
-use Rattle.std.proofs.lemmas.Nat.{one_shl}
+-- Numbers by their digits: the steps that read them from the highest digit down, and what they sum up to.
+use Rattle.std.proofs.Common.{◌≡◌, ℕ, zero, suc, ◌+◌, ◌-◌, ◌*◌, ◌/◌, ◌%◌, ◌^◌, ◌<◌, ◌≤◌, List, [], ◌∷◌, ◌++◌, length, reverse, get_or, sym, refl, ap, ◌∙◌, mul_assoc, mul_comm, mul-le-mul_left, pow-suc, mul-zero, mul-suc, mul-add, add-one, arith, length-set, pow-add}
+use native.Mathlib.Nat.{mod-add-mod, mod-eq_of_lt, pow-zero, pow-le-pow_right}
+use Rattle.std.proofs.lemmas.List.{reverse-append}
+use Rattle.std.proofs.lemmas.Nat.{mul-mod_first, one_shl}
 use Rattle.std.proofs.lemmas.Bool.{cond_both}
 use Rattle.record.specs.Chains.{storage_of}
 use Rattle.record.specs.Numbers.{digits, digits_value, magnitude, negative, total}
@@ -22,50 +21,8 @@ pow_pow n m (suc k) =
     let e : m * k + m ≡ m * suc k = omega (arith, mul-suc m k) in
     pow-suc (n ^ m) k ∙ (ap (λ x. x * n ^ m) (pow_pow n m k) ∙ (sym (pow-add n (m * k) m) ∙ ap (λ j. n ^ j) e))
 
-pub pow_none : (base m : ℕ) → base ^ (m - m) ≡ 1
-pow_none base m = ap (λ k. base ^ k) (omega arith) ∙ pow-zero base
-
 pub pow_most : (base k m : ℕ) → 0 < base → k ≤ m → base ^ k ≤ base ^ m
 pow_most base k m z h = pow-le-pow_right {n = base} z {i = k} {j = m} h
-
--- the number in the digits from place i on, where no digit is above c * (base - 1)
-pub record Read (base : ℕ) (digit : ℕ → ℕ) (c : ℕ) (bs : List ℕ) (i n : ℕ) : Type 0 where
-  pub value : n ≡ positional base digit (drop i bs)
-  pub bound : n + c ≤ c * base ^ (length bs - i)
-
-module _ (base : ℕ) (digit : ℕ → ℕ) (c : ℕ) (bs : List ℕ) where
-  pub read_none : Read base digit c bs (length bs) 0
-  read_none = record { value = rw drop-length; bound = omega (arith, ap (λ x. c * x) (pow_none base (length bs))) }
-
-  pub read_all : (i n : ℕ) → i ≤ 0 → Read base digit c bs i n → (n ≡ positional base digit bs) × (n + c ≤ c * base ^ length bs)
-  read_all i n h r =
-      let z : i ≡ 0 = omega arith in
-      let e : length bs - i ≡ length bs = omega arith in
-      (r.value ∙ ap (λ k. positional base digit (drop k bs)) z, omega (arith, r.bound, ap (λ k. c * base ^ k) e))
-
-  -- one place down
-  module _ (i n d : ℕ) (above : 0 < i) (within : i ≤ length bs) (small : d + c ≤ c * base) (r : Read base digit c bs i n) where
-    bound_more : n * base + d + c ≤ c * base ^ (length bs - (i - 1))
-    bound_more =
-        let k = length bs - i in
-        let s : length bs - (i - 1) ≡ k + 1 = omega arith in
-        let m : (n + c) * base ≤ c * base ^ k * base = mul-le-mul_right base r.bound in
-        let e : c * base ^ (k + 1) ≡ c * base ^ k * base = ap (λ x. c * x) (pow_more base k) ∙ sym (mul_assoc c (base ^ k) base) in
-        omega (arith, m, e, add-mul n c base, ap (λ j. c * base ^ j) s)
-
-    pub read_more : d ≡ digit (get_or bs (i - 1) 0) → Read base digit c bs (i - 1) (n * base + d)
-    read_more e =
-        let s : i ≡ i - 1 + 1 = omega arith in
-        let h : i - 1 < length bs = omega arith in
-        let f : n ≡ positional base digit (drop (i - 1 + 1) bs) = r.value ∙ ap (λ k. positional base digit (drop k bs)) s in
-        record {
-          value = rw (drop_more bs (i - 1) 0 h) (omega (arith, e, ap (λ x. base * x) f, mul_comm base n));
-          bound = bound_more;
-        }
-
-    pub read_fits : 0 < c → 0 < base → c * base ^ length bs ≤ 2 ^ 64 → n * base + d < 2 ^ 64
-    read_fits p q l =
-        omega (arith, bound_more, mul-le-mul_left c (pow_most base (length bs - (i - 1)) (length bs) q (omega arith)))
 
 -- a sum of weights a * base ^ i, where the bytes are numbered from k on, over those from number j + k on
 pub total_is : (weight digit : ℕ → ℕ) (a base k : ℕ) → ((i : ℕ) → weight (i + k) ≡ a * base ^ i) → (bs : List ℕ) (j : ℕ)
@@ -110,18 +67,13 @@ pairs (b ∷ bs) = omega (arith, pairs bs)
 pub pair_by_pair : (bs : List ℕ) → positional 100 pair bs ≡ digits_value bs
 pair_by_pair bs = pairs bs ∙ total_from_0 10 (λ d. d) (digits bs)
 
-positional_same : (base : ℕ) (f g : ℕ → ℕ) → ((b : ℕ) → f b ≡ g b) → (bs : List ℕ) → positional base f bs ≡ positional base g bs
-positional_same base f g e [] = refl
-positional_same base f g e (b ∷ bs) = omega (arith, e b, ap (λ x. base * x) (positional_same base f g e bs))
-
 -- the storage number, by the digits in base 16 of the DIFEs
-pub storage_is : (dif : ℕ) (bs : List ℕ) → dif / 64 % 2 + 2 * total (λ i. 16 ^ i) (λ b. b / 1 % 16) 0 bs ≡ storage_of dif bs
+pub storage_is : (dif : ℕ) (bs : List ℕ) → dif / 64 % 2 + 2 * total (λ i. 16 ^ i) (λ b. b % 16) 0 bs ≡ storage_of dif bs
 storage_is dif bs =
     let w : (i : ℕ) → 2 ^ (4 * (i + 1) - 3) ≡ 2 * 16 ^ i =
     λ i. ap (λ k. 2 ^ k) (omega arith) ∙ (pow_more 2 (4 * i) ∙ (mul_comm _ 2 ∙ ap (λ x. 2 * x) (sym (pow_pow 2 4 i)))) in
     let t = total_is (λ i. 2 ^ (4 * i - 3)) (λ b. b % 16) 2 16 1 w bs 0 in
-    let s = positional_same 16 (λ b. b / 1 % 16) (λ b. b % 16) (λ b. omega arith) bs in
-    omega (arith, t, s, total_from_0 16 (λ b. b / 1 % 16) bs)
+    omega (arith, t, total_from_0 16 (λ b. b % 16) bs)
 
 -- the weight of the highest bit of k bytes
 pub half_is : (k : ℕ) → 1 ≤ k → k ≤ 8 → (1 * 2 ^ (8 * k - 1)) % 2 ^ 64 ≡ 2 ^ (8 * k - 1)
@@ -134,3 +86,47 @@ half_twice k p =
 
 pub length_magnitude : (bs : List ℕ) → length (magnitude bs) ≡ length bs
 length_magnitude bs = cond_both (negative bs) _ _ (λ l. length l ≡ length bs) (λ _. simp length-set) (λ _. refl)
+
+-- a number is below the count of all of its length, where no digit is above c * (base - 1)
+pub positional_below : (base : ℕ) (digit : ℕ → ℕ) (c : ℕ) (bs : List ℕ) → ((i : ℕ) → digit (get_or bs i 0) + c ≤ c * base) → positional base digit bs + c ≤ c * base ^ length bs
+positional_below base digit c [] small = omega (arith, ap (λ x. c * x) (pow-zero base))
+positional_below base digit c (b ∷ bs) small =
+    let h = positional_below base digit c bs (λ i. small (suc i)) in
+    let k = small 0 in
+    omega (arith, mul-le-mul_left base h, k, ap (λ x. c * x) (pow-suc base (length bs)))
+
+-- what 64 bits hold of a number is the number, where they hold the count
+pub whole : (base : ℕ) (digit : ℕ → ℕ) (c n : ℕ) (bs : List ℕ) → 0 < c → ((i : ℕ) → digit (get_or bs i 0) + c ≤ c * base) → c * base ^ length bs ≤ 2 ^ 64
+    → n ≡ total (λ i. base ^ i) digit 0 bs % 2 ^ 64 → (n ≡ total (λ i. base ^ i) digit 0 bs) × (n + c ≤ c * base ^ length bs)
+whole base digit c n bs p small fits e =
+    let b = positional_below base digit c bs small in
+    let t = total_from_0 base digit bs in
+    (omega (arith, b, t, e, fits), omega (arith, b, t, e, fits))
+
+-- one digit more, below those that ys show from the highest down
+pub one_below : (m base : ℕ) (digit : ℕ → ℕ) (ys : List ℕ) (n k b : ℕ) → n ≡ positional base digit (reverse ys) % m → k ≡ (n * base % m + digit b) % m → k ≡ positional base digit (reverse (ys ++ b ∷ [])) % m
+one_below m base digit ys n k b h e =
+    let P = positional base digit (reverse ys) in
+    let r : positional base digit (reverse (ys ++ b ∷ [])) ≡ digit b + base * P = ap (positional base digit) (reverse-append ys (b ∷ [])) in
+    let s : P * base + digit b ≡ digit b + base * P = omega (arith, mul_comm P base) in
+    e
+    ∙ ap (λ x. (x * base % m + digit b) % m) h
+    ∙ ap (λ x. (x + digit b) % m) (mul-mod_first P base m)
+    ∙ mod-add-mod (P * base) m (digit b)
+    ∙ ap (λ x. x % m) (s ∙ sym r)
+
+-- a number in the DIFEs
+pub in_difes : (m base : ℕ) (digit : ℕ → ℕ) (n : ℕ) (bs : List ℕ) → 0 < base → base ^ 10 ≤ m → ((b : ℕ) → digit b < base) → length bs ≤ 10
+    → n ≡ positional base digit bs % m → (n ≡ positional base digit bs) × (n < base ^ 10)
+in_difes m base digit n bs p q small few e =
+    let h = positional_below base digit 1 bs (λ i. let k = small (get_or bs i 0) in omega (arith, k)) in
+    let l : positional base digit bs < base ^ 10 = omega (arith, h, pow_most base (length bs) 10 p few) in
+    let w : n ≡ positional base digit bs = e ∙ mod-eq_of_lt (omega (arith, l)) in
+    (w, omega (arith, w, l))
+
+pub positional_at : (base : ℕ) (f g : ℕ → ℕ) (xs ys : List ℕ) → length xs ≡ length ys → ((i : ℕ) → i < length xs → f (get_or xs i 0) ≡ g (get_or ys i 0)) → positional base f xs ≡ positional base g ys
+positional_at base f g [] [] e h = refl
+positional_at base f g [] (y ∷ ys) e h = absurd (omega arith)
+positional_at base f g (x ∷ xs) [] e h = absurd (omega arith)
+positional_at base f g (x ∷ xs) (y ∷ ys) e h =
+    omega (arith, h 0 (omega arith), ap (λ n. base * n) (positional_at base f g xs ys (omega arith) (λ i l. h (suc i) (omega (arith, l)))))

@@ -7,7 +7,7 @@ ghost use Rattle.record.specs.Codings.{Sized, dif_coding};
 ghost use Rattle.record.specs.Faults.{record_fault};
 ghost use Rattle.record.specs.Records.{Within, dib_checks, function_of, reading_by, record_checks, record_of, record_refusal, vib_checks};
 
-use crate::chain::{after_chain, storage, subunit, tariff};
+use crate::chain::{after_chain, register_of};
 use crate::coding::{Coding, coding_of};
 use crate::fault::RecordFault;
 use crate::reading::{Function, Reading, Span, Value};
@@ -84,16 +84,16 @@ fn assembled(bytes: &[u8], at: usize, vif: usize, vib: ValueBlock, value: Value)
 {
     let ValueBlock { meaning, end } = vib;
     let dif = bytes[at];
-    let difes = &bytes[at + 1..vif];
+    let register = register_of(dif, &bytes[at + 1..vif]);
     let vifes = Span {
         place: vif + 1,
         len: end - (vif + 1),
     };
     Reading {
         place: at,
-        storage: storage(dif, difes),
-        tariff: tariff(difes),
-        subunit: subunit(difes),
+        storage: register.storage,
+        tariff: register.tariff,
+        subunit: register.subunit,
         function: function_of(dif),
         meaning,
         vifes,

@@ -6,5 +6,6 @@ mod coding;
 pub mod decode;
 pub mod fault;
 mod number;
+mod positional;
 pub mod reading;
 mod value;

@@ -1,22 +1,19 @@
 // The numbers among the data, lowest byte first.
-ghost use Rattle.std.specs.Prelude.{◌≡◌, ◌+◌, ◌*◌, ◌^◌, ◌<◌, ◌≤◌, length, IfOk, slice_index};
+ghost use Rattle.std.specs.Prelude.{◌≡◌, ◌+◌, ◌*◌, ◌^◌, ◌<◌, ◌≤◌, length, IfOk, MatchOption, slice_index};
 ghost use Rattle.link.specs.Checks.{first_fault};
 ghost use Rattle.telegram.specs.Digits.{decimal as both_decimal};
 ghost use Rattle.record.specs.Faults.{record_fault};
 ghost use Rattle.record.specs.Numbers.{unsigned_of, integer_of, magnitude, first_bad, decimal_of, digit_checks, digits_value};
 
 use crate::fault::RecordFault;
+use crate::positional::positional;
 
 pub(crate) fn unsigned(bytes: &[u8]) -> u64
     requires { length bytes.now ≤ 8 }
     ensures value { result ≡ unsigned_of bytes.now }
     ensures bound { result < 256 ^ length bytes.now }
 {
-    let mut n: u64 = 0;
-    for i in (0..bytes.len()).rev() {
-        n = n * 256 + u64::from(bytes[i]);
-    }
-    n
+    positional(bytes, 256, u64::from)
 }
 
 // The bytes as a number in two's complement.
@@ -39,9 +36,10 @@ fn digits_at(bytes: &[u8], i: usize) -> u8
 {
     let b = bytes[i];
     if i == bytes.len() - 1 && b >= 0xf0 {
-        return b - 0xf0;
+        b - 0xf0
+    } else {
+        b
     }
-    b
 }
 
 // Both digits of a byte are at most 9.
@@ -51,29 +49,24 @@ fn is_decimal(byte: u8) -> bool
     (byte % 16 <= 9) & (byte / 16 <= 9)
 }
 
-// The first byte with a digit above 9 that is no sign, or the length.
-fn first_bad_digit(bytes: &[u8]) -> usize
-    ensures { result ≡ first_bad bytes.now }
+// The first byte with a digit above 9 that is no sign.
+fn first_bad_digit(bytes: &[u8]) -> Option<usize>
+    ensures { MatchOption result (length bytes.now ≤ first_bad bytes.now) (λ bad. (bad < length bytes.now) × (bad ≡ first_bad bytes.now)) }
 {
-    let mut at = 0;
-    while at < bytes.len() && is_decimal(digits_at(bytes, at)) {
-        at += 1;
-    }
-    at
+    (0..bytes.len()).find(|i| !is_decimal(digits_at(bytes, *i)))
 }
 
-// The number that the digits are, without the sign.
+// The number that the digits are, without the sign. Once the digits are tested, only a sign makes a byte so large.
 fn digits(bytes: &[u8]) -> u64
-    requires { length bytes.now ≤ 8 }
+    requires few { length bytes.now ≤ 8 }
+    requires tested { length bytes.now ≤ first_bad bytes.now }
     ensures value { result ≡ digits_value (magnitude bytes.now) }
     ensures bound { result + 2 ≤ 2 * 100 ^ length bytes.now }
 {
-    let mut n: u64 = 0;
-    for i in (0..bytes.len()).rev() {
-        let b = u64::from(digits_at(bytes, i));
-        n = n * 100 + (b / 16 * 10 + b % 16);
-    }
-    n
+    positional(bytes, 100, |byte| {
+        let b = byte % 0xf0;
+        u64::from(b / 16 * 10 + b % 16)
+    })
 }
 
 // The bytes from `place` on as a decimal number, two digits to a byte. A topmost digit F means minus.
@@ -82,8 +75,7 @@ pub(crate) fn decimal(bytes: &[u8], place: usize) -> Result<i64, RecordFault>
     ensures fault { record_fault result ≡ first_fault (digit_checks place (magnitude bytes.now)) }
     ensures value { IfOk result (λ v. v ≡ decimal_of bytes.now) }
 {
-    let bad = first_bad_digit(bytes);
-    if bad < bytes.len() {
+    if let Some(bad) = first_bad_digit(bytes) {
         return Err(RecordFault::Digit { place: place + bad });
     }
     let n = digits(bytes) as i64;

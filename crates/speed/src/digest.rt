@@ -89,7 +89,7 @@ fn mix_reading(digest: u64, reading: &Reading, vifes: usize) -> u64
             reading.tariff as u64,
             reading.subunit as u64,
             reading.function as u64,
-            meaning.quantity.number() as u64,
+            u64::from(u8::from(meaning.quantity)),
             i64::from(meaning.power).cast_unsigned(),
             meaning.unit as u64,
             vifes as u64,

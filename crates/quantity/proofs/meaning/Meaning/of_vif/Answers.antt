@@ -1,8 +1,14 @@
-use Rattle.std.proofs.Common.{◌%◌, ◌<◌, Some, None, sym, ap, ◌∙◌, arith, rules}
-use Rattle.quantity.specs.Table.{Moderate, table, vif_meaning}
-use Rattle.quantity.proofs.Rows.{by_row, row_among}
-use Rattle.quantity.proofs.Standing.{counted, few_codes, moderate_rows, table_stands}
+use Rattle.std.proofs.Common.{◌≡◌, ℕ, ◌%◌, Some, None, Option, sym, ap, ◌∙◌, arith, rules}
+use Rattle.std.proofs.lemmas.Bool.{ne_eqb}
+use Rattle.quantity.specs.declared.table.Row.{Row}
+use Rattle.quantity.specs.Table.{meaning_at, row_with, table, vif_meaning}
+use Rattle.quantity.proofs.Standing.{row_serves, table_stands}
 use Rattle.quantity.proofs.meaning.Meaning.of_vif.Goals as goal
+
+-- what a VIF that is neither 7B nor 7D means, by the row that is found
+by_row : (v : ℕ) (o : Option Row) → (v ≡ 0x7B → ⊥) → (v ≡ 0x7D → ⊥) → o ≡ row_with (v % 128) table → meaning_at (v % 128) o ≡ vif_meaning v
+unfolding vif_meaning
+by_row v o h k e = simp (ne_eqb v 0x7B h, ne_eqb v 0x7D k) (ap (meaning_at (v % 128)) e)
 
 pub returns-then-vif-eq-FIRST_EXTENSION : goal.returns-then-vif-eq-FIRST_EXTENSION
 unfolding vif_meaning
@@ -16,12 +22,7 @@ returns-in_err-row c =
     }
 
 pub meaning_in-requires : goal.meaning_in-requires
-meaning_in-requires c =
-    let h = row_among Moderate (c.args.vif % 128) table c.in_ok-row.row moderate_rows (sym c.in_ok-row.ensures) in
-    let code = c.args.vif % 128 in
-    let e = sym c.in_ok-row.ensures in
-    let low : code < 128 = omega arith in
-    (h.0, (counted code c.in_ok-row.row low e, (few_codes code c.in_ok-row.row low e, h.1)))
+meaning_in-requires c = row_serves (c.args.vif % 128) c.in_ok-row.row (omega arith) (sym c.in_ok-row.ensures)
 
 pub returns : goal.returns
 returns c =

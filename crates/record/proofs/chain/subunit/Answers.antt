@@ -1,9 +1,0 @@
-use Rattle.std.proofs.Common.{◌/◌, ◌%◌, length, ◌∙◌, arith}
-use Rattle.record.proofs.Positions.{pow_most, total_from_1}
-use Rattle.record.proofs.chain.subunit.Goals as goal
-
-pub overflow_cast-result : goal.overflow_cast-result
-overflow_cast-result c = record { fits = omega (arith, pow_most 2 (length c.args.difes.now) 10 (omega arith) (omega arith)) }
-
-pub returns : goal.returns
-returns c = c.joined.ensures.value ∙ total_from_1 2 (λ b. b / 64 % 2) c.args.difes.now
