@@ -22,6 +22,7 @@ pub trait Line {
 
     ghost layered: { (x : Self) → means x ≡ divided (tries x) (base x) };
 
+    // No heap: the reply comes into memory that is handed in, and its count beside it.
     // Sends a request of any bytes, and fills the buffer with the reply and then 00.
     // Answers the count of the reply's bytes; silence counts 0.
     fn exchange(&mut self, request: &[u8], reply: &mut Buffer) -> usize

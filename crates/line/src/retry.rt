@@ -84,7 +84,7 @@ impl<L: Line> Line for Retry<L> {
     {
         let tries = self.limit + 1;
         let mut silent = true;
-        for i in 0..tries {
+        for _ in 0..tries {
             let count = self.below.exchange(request, reply);
             if is_answered(reply, count) {
                 return count;

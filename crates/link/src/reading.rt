@@ -40,6 +40,8 @@ fn check_end(bytes: &[u8], from: usize, size: usize) -> Result<(), FrameFault>
     Ok(())
 }
 
+// That a frame's bytes are those given relates a result to an argument, so it stands in each reader and in no type.
+
 // An acknowledgement, once it begins with E5.
 fn read_ack(bytes: &[u8]) -> Result<Frame<'_>, FrameFault>
     requires { slice_index bytes.now 0 ≡ 0xe5 }

@@ -3,7 +3,8 @@ ghost use Rattle.std.specs.Prelude.{◌≤◌, length};
 
 mod methods;
 
-// The first `used` places hold the entries, in the order in which they came; the others are never touched.
+// No heap: the places are the caller's. The first `used` of them hold the entries, in the order in which they came;
+// the others are never touched.
 #[derive(Drop)]
 pub struct FixedList<'a, T> {
     places: &'a mut [T],

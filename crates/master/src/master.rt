@@ -38,6 +38,8 @@ pub struct Picked<L> {
     bit: bool,
 }
 
+// That a call keeps the layers relates the line before and after, so it stands at each call and in no type.
+
 // Sends the release.
 fn send_release<L: Line>(line: &mut L)
     ensures sent { Releases (L.means line.old) (L.means line.new) }

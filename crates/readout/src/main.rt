@@ -45,7 +45,7 @@ fn print_refusal<O: Write>(out: &mut O, fault: CaptureFault) -> io::Result<()> {
     print_fault(out, telegram, &fault)
 }
 
-// Makes one call, and prints its outcome. Answers whether a telegram was fetched that says that more follow.
+// Makes one call, and prints its outcome. Answers the master, and whether a telegram was fetched that says that more follow.
 fn call<L: Line + Drop, O: Write>(
     out: &mut O,
     master: Master<L>,

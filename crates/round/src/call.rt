@@ -13,7 +13,8 @@ pub enum Call {
     Release,
 }
 
-// A telegram as it was fetched: the first `count` bytes of its buffer. No heap: it has the memory of the longest one.
+// A telegram as it was fetched: the first `count` bytes of its buffer. No heap, and copied with its outcome: it has the
+// memory of the longest one.
 #[derive(Clone, Copy)]
 pub struct Telegram {
     pub(crate) buffer: Buffer,

@@ -20,6 +20,8 @@ use master::master::{Idle, Picked};
 use search::entry::Entry;
 use telegram::address::Address;
 
+// That a call keeps the house and the layers relates the master before and after, so it stands at each and in no type.
+
 pub(crate) fn pick<L: Line>(idle: Idle<L>, address: Address) -> (Master<L>, Outcome)
     ensures goes { (room : ℕ) (es : List Listed) → Goes L.means room (Master.Idle idle) (Call.Pick address) result.1 result.0 es es }
     ensures house { SameHouse L.means (Master.Idle idle) result.0 }

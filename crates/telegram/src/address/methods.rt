@@ -49,7 +49,7 @@ impl Address {
         })
     }
 
-    // The address as it travels.
+    // The address as it travels. A method as `to_le_bytes` is: with `From` each use would have to name the array's type.
     pub fn bytes(&self) -> [u8; 8]
         ensures { result ≡ address_bytes self.now }
     {
@@ -70,6 +70,7 @@ impl TryFrom<[u8; 8]> for Address {
     }
 }
 
+// By hand: a derive would say that the fields are equal, and not, as callers need it, that the bytes are which travel.
 impl PartialEq for Address {
     ghost eq = { λ a b. bytes_eq (address_bytes a) (address_bytes b) };
 
