@@ -7,4 +7,3 @@ pub record Read {X : Type 0} (fits : List ℕ → Bool) (value : List ℕ → X)
   pub tests : list_all fits left ≡ list_all fits all
   pub values : items ++ map value left ≡ map value all
   pub room : len + length left ≤ cap
-  pub few : len + length left ≤ length all

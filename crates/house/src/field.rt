@@ -1,5 +1,5 @@
 // Values that a line has several of, a word for each.
-ghost use Rattle.std.specs.Prelude.{◌≡◌, ℕ, ◌+◌, ◌≤◌, Bool, true, false, List, map, length, IfSome, if◌then◌else◌, Some, None, vec_len, vec_capacity, MatchOption};
+ghost use Rattle.std.specs.Prelude.{◌≡◌, ℕ, ◌+◌, ◌≤◌, Bool, true, false, List, map, length, if◌then◌else◌, Some, None, vec_len, vec_capacity, MatchOption};
 ghost use Rattle.std.specs.List.{list_all};
 ghost use Rattle.house.specs.Fields.{body_of, is_body, is_code};
 ghost use Rattle.house.specs.Numbers.{decimal_value};
@@ -53,8 +53,7 @@ impl Field for Body {
 pub(crate) fn read_all<F: Field + Drop>(words: Words, mut items: Vec<F>) -> Option<Vec<F>>
     requires room { length (words_of words.text.now) ≤ vec_capacity items }
     requires empty { vec_len items ≡ 0 }
-    ensures values { MatchOption result (list_all F.fits (words_of words.entry.text.now) ≡ false) (λ v. (list_all F.fits (words_of words.entry.text.now) ≡ true) × (v.items ≡ map F.value (words_of words.entry.text.now))) }
-    ensures few { IfSome result (λ v. vec_len v ≤ length (words_of words.entry.text.now)) }
+    ensures { MatchOption result (list_all F.fits (words_of words.entry.text.now) ≡ false) (λ v. (list_all F.fits (words_of words.entry.text.now) ≡ true) × (v.items ≡ map F.value (words_of words.entry.text.now))) }
 {
     for word in words {
         items.push_reserved(F::read(word)?);

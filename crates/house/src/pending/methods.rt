@@ -51,7 +51,7 @@ impl House {
         })
     }
 
-    // Adds what a line says, if the house takes it.
+    // Adds what a line says. `None`: the house does not take it, and stays as it was.
     fn take(&mut self, line: HouseLine) -> Option<()>
         requires { TakesMore self.old (added (said line)) }
         ensures { Accepts (parts_of self.old) (said line) (is_some result) (parts_of self.new) }
@@ -82,8 +82,8 @@ impl House {
         Some(())
     }
 
-    // Adds what a line, given without its line feed, says. Nothing is added by a line that says nothing which the
-    // house takes.
+    // Adds what a line, given without its line feed, says. `None`: it says nothing that the house takes, which stays
+    // as it was.
     #[tactic(auto, using(crate::proofs::Adding::few_said, crate::proofs::Adding::takes_less, crate::proofs::Adding::unsaid_line))]
     fn read(&mut self, line: Source) -> Option<()>
         requires { TakesMore self.old (length line.text.now) }
