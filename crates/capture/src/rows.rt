@@ -1,4 +1,5 @@
-// The meters of a capture so far, in memory that was got before its bytes are read, so that reading them never wants memory.
+// The meters of a capture so far, in memory that was got before its bytes are read, so that reading them never wants
+// memory.
 ghost use Rattle.std.specs.Prelude.{◌≡◌, ℕ, ◌<◌, ◌≤◌, List, [], ◌∷◌, ◌++◌, length, None, IfOk, MatchResult, vec_len, vec_capacity};
 ghost use Rattle.telegram.specs.Addresses.{address_bytes};
 ghost use Rattle.capture.specs.declared.fault.Cause.TheVariants.{Size};
