@@ -6,25 +6,16 @@ ghost use Rattle.line.specs.Buses.{fitting};
 ghost use Rattle.bus.specs.Choices.{Tells, one_more};
 
 use crate::table::Table;
+use telegram::matches::Matches;
 use telegram::pattern::Pattern;
 
-#[derive(Clone, Copy)]
-pub(crate) enum Choice {
-    Nobody,
-    // the meter in this row
-    Only(usize),
-    Several,
-}
-
-impl Choice {
-    // The choice with the meter of one row more.
-    fn and(self, row: usize) -> Choice
-        ensures { result ≡ one_more self row }
-    {
-        match self {
-            Choice::Nobody => Choice::Only(row),
-            _ => Choice::Several,
-        }
+// The rows chosen, with one row more.
+fn with_row(chosen: Matches<usize>, row: usize) -> Matches<usize>
+    ensures { result ≡ one_more chosen row }
+{
+    match chosen {
+        Matches::Nobody => Matches::One(row),
+        _ => Matches::Several,
     }
 }
 
@@ -38,24 +29,24 @@ fn is_fit<T: Table>(table: &T, pattern: &Pattern, row: usize) -> bool
 }
 
 // The meters that the pattern fits.
-fn choose<T: Table>(table: &T, pattern: &Pattern) -> Choice
+fn choose<T: Table>(table: &T, pattern: &Pattern) -> Matches<usize>
     ensures { Tells (T.meters table.now) (fitting (Some pattern.now) (T.meters table.now)) result }
 {
-    let mut choice = Choice::Nobody;
+    let mut chosen = Matches::Nobody;
     for row in 0..table.count() {
         if is_fit(table, pattern, row) {
-            choice = choice.and(row);
+            chosen = with_row(chosen, row);
         }
     }
-    choice
+    chosen
 }
 
 // The meters that are selected.
-pub(crate) fn chosen<T: Table>(table: &T, selection: &Option<Pattern>) -> Choice
+pub(crate) fn chosen<T: Table>(table: &T, selection: &Option<Pattern>) -> Matches<usize>
     ensures { Tells (T.meters table.now) (fitting selection.now (T.meters table.now)) result }
 {
     match selection {
-        None => Choice::Nobody,
+        None => Matches::Nobody,
         Some(pattern) => choose(table, pattern),
     }
 }

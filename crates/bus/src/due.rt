@@ -6,9 +6,9 @@ ghost use Rattle.line.specs.Buses.{due_fetches, due_selects};
 ghost use Rattle.bus.specs.Choices.{Tells};
 ghost use Rattle.bus.specs.Replies.{arriving, damaged, due_from};
 
-use crate::choice::Choice;
 use crate::table::Table;
 use link::buffer::{Buffer, fill};
+use telegram::matches::Matches;
 
 #[derive(Clone, Copy)]
 pub(crate) enum DueReply {
@@ -22,26 +22,26 @@ pub(crate) enum DueReply {
 
 impl DueReply {
     // All meters chosen acknowledge a selection.
-    pub(crate) fn to_selection(choice: Choice) -> DueReply
+    pub(crate) fn to_selection(choice: Matches<usize>) -> DueReply
         ensures { (ms chosen : List Meter) → Tells ms chosen choice → due_from ms result ≡ due_selects chosen }
     {
         match choice {
-            Choice::Nobody => DueReply::Silence,
-            Choice::Only(_) | Choice::Several => DueReply::Acknowledgement,
+            Matches::Nobody => DueReply::Silence,
+            Matches::One(_) | Matches::Several => DueReply::Acknowledgement,
         }
     }
 
     // All meters chosen answer a fetch, an only one with the telegram whose turn it is.
-    pub(crate) fn to_fetch(choice: Choice, turn: usize) -> DueReply
+    pub(crate) fn to_fetch(choice: Matches<usize>, turn: usize) -> DueReply
         ensures { (ms chosen : List Meter) → Tells ms chosen choice → due_from ms result ≡ due_fetches chosen turn }
     {
         match choice {
-            Choice::Nobody => DueReply::Silence,
-            Choice::Only(row) => DueReply::Telegram {
+            Matches::Nobody => DueReply::Silence,
+            Matches::One(row) => DueReply::Telegram {
                 row,
                 place: turn.saturating_sub(1),
             },
-            Choice::Several => DueReply::Collision,
+            Matches::Several => DueReply::Collision,
         }
     }
 }

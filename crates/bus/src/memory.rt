@@ -6,9 +6,10 @@ ghost use Rattle.line.specs.Buses.{due as due_after, fetched, fitting, hear as h
 ghost use Rattle.bus.specs.Memories.{OnlyHas, Positive, remembering, turn_kept};
 ghost use Rattle.bus.specs.Replies.{due_from};
 
-use crate::choice::{Choice, chosen};
+use crate::choice::chosen;
 use crate::due::DueReply;
 use crate::table::Table;
+use telegram::matches::Matches;
 use telegram::pattern::Pattern;
 use telegram::request::Request;
 
@@ -112,7 +113,7 @@ fn only_count<T: Table>(table: &T, selection: &Option<Pattern>) -> Option<usize>
     ensures some { Positive result }
 {
     match chosen(table, selection) {
-        Choice::Only(row) => Some(table.telegrams(row)),
-        Choice::Nobody | Choice::Several => None,
+        Matches::One(row) => Some(table.telegrams(row)),
+        Matches::Nobody | Matches::Several => None,
     }
 }
