@@ -54,7 +54,7 @@ fn fixed(bytes: &[u8], at: usize, size: usize, kind: Kind) -> Result<Parsed<Valu
     ensures value { IfOk result (λ v. v.value ≡ value_of bytes.now at (Coding.Fixed size kind)) }
     ensures end { IfOk result (λ v. v.end ≡ value_end bytes.now at (Coding.Fixed size kind)) }
 {
-    // not `get(at..end).ok_or(..)?`, with which a whole decoding is slower by a tenth
+    // not `get(at..end).ok_or(..)?`, with which a whole decoding is slower by a twelfth
     if bytes.len() - at < size {
         return Err(RecordFault::Ended { place: bytes.len() });
     }
