@@ -1,4 +1,5 @@
-// One record: DIF, DIFEs, VIF, VIFEs, data.
+// One record: DIF, DIFEs, VIF, VIFEs, data. `bytes` and `at` go side by side through this crate, and not as a cursor:
+// faults and readings tell places, and one place is often read from twice.
 ghost use Rattle.std.specs.Prelude.{◌≡◌, ◌+◌, ◌<◌, ◌≤◌, length, IfOk, Some, slice_index};
 ghost use Rattle.link.specs.Checks.{FailsFirst, first_fault};
 ghost use Rattle.quantity.specs.Table.{vif_meaning};
@@ -10,25 +11,12 @@ ghost use Rattle.record.specs.Records.{Within, dib_checks, function_of, reading_
 use crate::chain::{after_chain, register_of};
 use crate::coding::{Coding, coding_of};
 use crate::fault::RecordFault;
+use crate::parsed::{Parsed, byte_at};
 use crate::reading::{Function, Reading, Span, Value};
 use crate::value::value_at;
 use quantity::meaning::Meaning;
 
-// A data information block, the DIF and its DIFEs: how the data are coded, and the place after it.
-#[derive(Clone, Copy)]
-struct DataBlock {
-    coding: Coding,
-    end: usize,
-}
-
-// A value information block, the VIF and its VIFEs: what the data mean, and the place after it.
-#[derive(Clone, Copy)]
-struct ValueBlock {
-    meaning: Meaning,
-    end: usize,
-}
-
-// A reading and the place after its record.
+// A reading and the place after its record. Its parts have names of their own, since other crates read them.
 #[derive(Clone, Copy)]
 pub struct Decoded {
     pub reading: Reading,
@@ -46,43 +34,42 @@ fn function_of(dif: u8) -> Function
     }
 }
 
-// The data information block at `at`.
-fn data_block(bytes: &[u8], at: usize) -> Result<DataBlock, RecordFault>
+// The data information block at `at`, the DIF and its DIFEs: how the data are coded.
+fn data_block(bytes: &[u8], at: usize) -> Result<Parsed<Coding>, RecordFault>
     ensures fault { record_fault result ≡ first_fault (dib_checks bytes.now at) }
-    ensures coding { IfOk result (λ b. dif_coding (slice_index bytes.now at) ≡ Some b.coding) }
-    ensures sized { IfOk result (λ b. Sized b.coding) }
+    ensures coding { IfOk result (λ b. dif_coding (slice_index bytes.now at) ≡ Some b.value) }
+    ensures sized { IfOk result (λ b. Sized b.value) }
     ensures place { IfOk result (λ b. b.end ≡ chain_end bytes.now at) }
     ensures within { IfOk result (λ b. (at < b.end) × (b.end ≤ at + 11) × (b.end ≤ length bytes.now)) }
 {
-    if at >= bytes.len() {
-        return Err(RecordFault::Ended { place: bytes.len() });
-    }
-    let coding = coding_of(bytes[at]).ok_or(RecordFault::DataField { place: at })?;
+    let dif = byte_at(bytes, at)?;
+    let value = coding_of(dif).ok_or(RecordFault::DataField { place: at })?;
     let end = after_chain(bytes, at)?;
-    Ok(DataBlock { coding, end })
+    Ok(Parsed { value, end })
 }
 
-// The value information block at `at`.
-fn value_block(bytes: &[u8], at: usize) -> Result<ValueBlock, RecordFault>
+// The value information block at `at`, the VIF and its VIFEs: what the data mean.
+fn value_block(bytes: &[u8], at: usize) -> Result<Parsed<Meaning>, RecordFault>
     ensures fault { record_fault result ≡ first_fault (vib_checks bytes.now at) }
-    ensures meaning { IfOk result (λ b. vif_meaning (slice_index bytes.now at) ≡ Some b.meaning) }
+    ensures meaning { IfOk result (λ b. vif_meaning (slice_index bytes.now at) ≡ Some b.value) }
     ensures place { IfOk result (λ b. b.end ≡ chain_end bytes.now at) }
     ensures within { IfOk result (λ b. (at < b.end) × (b.end ≤ length bytes.now)) }
 {
-    if at >= bytes.len() {
-        return Err(RecordFault::Ended { place: bytes.len() });
-    }
-    let meaning = Meaning::of_vif(bytes[at]).ok_or(RecordFault::Vif { place: at })?;
+    let vif = byte_at(bytes, at)?;
+    let value = Meaning::of_vif(vif).ok_or(RecordFault::Vif { place: at })?;
     let end = after_chain(bytes, at)?;
-    Ok(ValueBlock { meaning, end })
+    Ok(Parsed { value, end })
 }
 
 // The record at `at`, once its blocks and its value are read.
-fn assembled(bytes: &[u8], at: usize, vif: usize, vib: ValueBlock, value: Value) -> Reading
+fn assembled(bytes: &[u8], at: usize, vif: usize, vib: Parsed<Meaning>, value: Value) -> Reading
     requires { (at < vif) × ((vif ≤ at + 11) × ((vif < vib.end) × (vib.end ≤ length bytes.now))) }
-    ensures { result ≡ reading_by bytes.now at vif vib.end vib.meaning value }
+    ensures { result ≡ reading_by bytes.now at vif vib.end vib.value value }
 {
-    let ValueBlock { meaning, end } = vib;
+    let Parsed {
+        value: meaning,
+        end,
+    } = vib;
     let dif = bytes[at];
     let register = register_of(dif, &bytes[at + 1..vif]);
     let vifes = Span {
@@ -110,9 +97,9 @@ pub fn decode(bytes: &[u8], at: usize) -> Result<Decoded, RecordFault>
 {
     let dib = data_block(bytes, at)?;
     let vib = value_block(bytes, dib.end)?;
-    let valued = value_at(bytes, vib.end, dib.coding)?;
+    let valued = value_at(bytes, vib.end, dib.value)?;
     Ok(Decoded {
         reading: assembled(bytes, at, dib.end, vib, valued.value),
-        next: valued.next,
+        next: valued.end,
     })
 }

@@ -6,6 +6,7 @@ mod coding;
 pub mod decode;
 pub mod fault;
 mod number;
+mod parsed;
 mod positional;
 pub mod reading;
 mod value;

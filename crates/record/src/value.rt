@@ -8,16 +8,10 @@ ghost use Rattle.record.specs.Values.{number_checks, number_of, text_checks, val
 use crate::coding::{Coding, Kind};
 use crate::fault::RecordFault;
 use crate::number::{decimal, integer, unsigned};
+use crate::parsed::{Parsed, byte_at};
 use crate::reading::{Span, Value};
 
 const LONGEST_TEXT: usize = 0xbf;
-
-// A value and the place after its data.
-#[derive(Clone, Copy)]
-pub struct Valued {
-    pub value: Value,
-    pub next: usize,
-}
 
 // The value of the bytes at `place`.
 fn number(bytes: &[u8], kind: Kind, place: usize) -> Result<Value, RecordFault>
@@ -34,15 +28,12 @@ fn number(bytes: &[u8], kind: Kind, place: usize) -> Result<Value, RecordFault>
 }
 
 // The text at `at`: a length byte and that many bytes.
-fn text(bytes: &[u8], at: usize) -> Result<Valued, RecordFault>
+fn text(bytes: &[u8], at: usize) -> Result<Parsed<Value>, RecordFault>
     ensures fault { record_fault result ≡ first_fault (text_checks bytes.now at) }
     ensures value { IfOk result (λ v. v.value ≡ value_of bytes.now at Coding.Text) }
-    ensures next { IfOk result (λ v. v.next ≡ value_end bytes.now at Coding.Text) }
+    ensures end { IfOk result (λ v. v.end ≡ value_end bytes.now at Coding.Text) }
 {
-    if at >= bytes.len() {
-        return Err(RecordFault::Ended { place: bytes.len() });
-    }
-    let len = bytes[at] as usize;
+    let len = usize::from(byte_at(bytes, at)?);
     if len > LONGEST_TEXT {
         return Err(RecordFault::TextLength { place: at });
     }
@@ -50,27 +41,41 @@ fn text(bytes: &[u8], at: usize) -> Result<Valued, RecordFault>
     if bytes.len() - place < len {
         return Err(RecordFault::Ended { place: bytes.len() });
     }
-    Ok(Valued {
+    Ok(Parsed {
         value: Value::Text(Span { place, len }),
-        next: place + len,
+        end: place + len,
     })
 }
 
-// The value of the data at `at`.
-pub(crate) fn value_at(bytes: &[u8], at: usize, coding: Coding) -> Result<Valued, RecordFault>
-    requires { (at ≤ length bytes.now) × (Sized coding) }
-    ensures fault { record_fault result ≡ first_fault (value_checks bytes.now at coding) }
-    ensures value { IfOk result (λ v. v.value ≡ value_of bytes.now at coding) }
-    ensures next { IfOk result (λ v. v.next ≡ value_end bytes.now at coding) }
+// The value of the `size` bytes at `at`.
+fn fixed(bytes: &[u8], at: usize, size: usize, kind: Kind) -> Result<Parsed<Value>, RecordFault>
+    requires { (at ≤ length bytes.now) × (SizedKind size kind) }
+    ensures fault { record_fault result ≡ first_fault (value_checks bytes.now at (Coding.Fixed size kind)) }
+    ensures value { IfOk result (λ v. v.value ≡ value_of bytes.now at (Coding.Fixed size kind)) }
+    ensures end { IfOk result (λ v. v.end ≡ value_end bytes.now at (Coding.Fixed size kind)) }
 {
-    let (size, kind) = match coding {
-        Coding::Text => return text(bytes, at),
-        Coding::Fixed(size, kind) => (size, kind),
-    };
+    // not `get(at..end).ok_or(..)?`, with which a whole decoding is slower by a twelfth
     if bytes.len() - at < size {
         return Err(RecordFault::Ended { place: bytes.len() });
     }
-    let next = at + size;
-    let value = number(&bytes[at..next], kind, at)?;
-    Ok(Valued { value, next })
+    let end = at + size;
+    let value = number(&bytes[at..end], kind, at)?;
+    Ok(Parsed { value, end })
+}
+
+// The value of the data at `at`.
+pub(crate) fn value_at(
+    bytes: &[u8],
+    at: usize,
+    coding: Coding,
+) -> Result<Parsed<Value>, RecordFault>
+    requires { (at ≤ length bytes.now) × (Sized coding) }
+    ensures fault { record_fault result ≡ first_fault (value_checks bytes.now at coding) }
+    ensures value { IfOk result (λ v. v.value ≡ value_of bytes.now at coding) }
+    ensures end { IfOk result (λ v. v.end ≡ value_end bytes.now at coding) }
+{
+    match coding {
+        Coding::Fixed(size, kind) => fixed(bytes, at, size, kind),
+        Coding::Text => text(bytes, at),
+    }
 }

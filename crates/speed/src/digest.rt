@@ -19,11 +19,9 @@ fn mix(digest: u64, number: u64) -> u64
 pub(crate) fn mix_all(digest: u64, numbers: &[u64]) -> u64
     ensures { result ≡ mixed_all digest numbers.now }
 {
-    let mut mixed = digest;
-    for number in numbers {
-        mixed = mix(mixed, *number);
-    }
-    mixed
+    numbers
+        .iter()
+        .fold(digest, |mixed, number| mix(mixed, *number))
 }
 
 // A fault by its number and place, 0 where it has none.
@@ -32,7 +30,7 @@ pub(crate) fn mix_report(digest: u64, report: Report) -> u64
 {
     mix_all(
         digest,
-        &[report.number as u64, report.place.unwrap_or(0) as u64],
+        &[u64::from(report.number), report.place.unwrap_or(0) as u64],
     )
 }
 
@@ -40,26 +38,13 @@ pub(crate) fn mix_report(digest: u64, report: Report) -> u64
 pub(crate) fn mix_reply(digest: u64, reply: &Reply) -> u64
     ensures { result ≡ mixed_all digest (reply_fields reply.now) }
 {
-    let a = reply.address.bytes();
-    let address = mix_all(
-        digest,
-        &[
-            a[0] as u64,
-            a[1] as u64,
-            a[2] as u64,
-            a[3] as u64,
-            a[4] as u64,
-            a[5] as u64,
-            a[6] as u64,
-            a[7] as u64,
-        ],
-    );
+    let address = mix_all(digest, &reply.address.bytes().map(u64::from));
     mix_all(
         address,
         &[
-            reply.access as u64,
-            reply.status as u64,
-            reply.signature as u64,
+            u64::from(reply.access),
+            u64::from(reply.status),
+            u64::from(reply.signature),
         ],
     )
 }
@@ -70,7 +55,7 @@ fn mix_value(digest: u64, value: Value) -> u64
     match value {
         Value::NoData => mix_all(digest, &[0]),
         Value::Integer(number) => mix_all(digest, &[1, number.cast_unsigned()]),
-        Value::Real(pattern) => mix_all(digest, &[2, pattern as u64]),
+        Value::Real(pattern) => mix_all(digest, &[2, u64::from(pattern)]),
         Value::Text(text) => mix_all(digest, &[3, text.place as u64, text.len as u64]),
     }
 }
@@ -86,8 +71,8 @@ fn mix_reading(digest: u64, reading: &Reading, vifes: usize) -> u64
             1,
             reading.place as u64,
             reading.storage,
-            reading.tariff as u64,
-            reading.subunit as u64,
+            u64::from(reading.tariff),
+            u64::from(reading.subunit),
             reading.function as u64,
             u64::from(u8::from(meaning.quantity)),
             i64::from(meaning.power).cast_unsigned(),
@@ -103,11 +88,12 @@ pub(crate) fn mix_item(digest: u64, item: &Item) -> u64
     ensures { result ≡ mixed_all digest (item_fields (view item.now)) }
 {
     match item {
-        Item::Record { reading, vifes } => mix_reading(digest, reading, vifes.len()),
-        Item::Text { reading, vifes, .. } => mix_reading(digest, reading, vifes.len()),
+        Item::Record { reading, vifes } | Item::Text { reading, vifes, .. } => {
+            mix_reading(digest, reading, vifes.len())
+        }
         Item::Manufacturer { place, bytes, more } => mix_all(
             digest,
-            &[2, *place as u64, bytes.len() as u64, *more as u64],
+            &[2, *place as u64, bytes.len() as u64, u64::from(*more)],
         ),
     }
 }
