@@ -21,38 +21,44 @@ struct Figure<'a> {
 impl fmt::Display for Figure<'_> {
     fn fmt<W: fmt::Write>(&self, f: &mut fmt::Formatter<W>) -> fmt::Result {
         match self.value {
-            Value::NoData => write!(f, "form=none figure=-"),
+            Value::NoData => f.write_str("form=none figure=-"),
             Value::Integer(number) => write!(f, "form=whole figure={number}"),
             Value::Real(pattern) => write!(f, "form=real figure={pattern:08X}"),
-            Value::Text(_) => {
-                let text = Hex(self.text);
-                write!(f, "form=text figure={text}")
-            }
+            Value::Text(_) => write!(f, "form=text figure={}", Hex(self.text)),
         }
     }
 }
 
 impl fmt::Display for ReadingLine<'_> {
     fn fmt<W: fmt::Write>(&self, f: &mut fmt::Formatter<W>) -> fmt::Result {
-        let reading = self.reading;
-        let place = reading.place;
-        let storage = reading.storage;
-        let tariff = reading.tariff;
-        let sub = reading.subunit;
+        let Reading {
+            place,
+            tariff,
+            storage,
+            subunit,
+            vifes: _,
+            function,
+            value,
+            meaning,
+        } = self.reading;
         write!(
             f,
-            "kind=reading place={place} storage={storage} tariff={tariff} sub={sub} "
+            "kind=reading place={place} storage={storage} tariff={tariff} sub={subunit} "
         )?;
-        let function = reading.function as u8;
-        let quantity = u8::from(reading.meaning.quantity);
-        let figure = Figure {
-            value: reading.value,
-            text: self.text,
-        };
-        write!(f, "function={function} quantity={quantity} {figure} ")?;
-        let power = reading.meaning.power;
-        let unit = reading.meaning.unit;
-        let vifes = Hex(self.vifes);
-        write!(f, "power={power} unit={unit} vifes={vifes}")
+        write!(
+            f,
+            "function={} quantity={} ",
+            function as u8,
+            u8::from(meaning.quantity)
+        )?;
+        let text = self.text;
+        write!(f, "{} ", Figure { value, text })?;
+        write!(
+            f,
+            "power={} unit={} vifes={}",
+            meaning.power,
+            meaning.unit,
+            Hex(self.vifes)
+        )
     }
 }
