@@ -7,7 +7,7 @@ use self::Kind::*;
 
 #[derive(Clone, Copy)]
 pub enum Coding {
-    // this many bytes
+    // this many bytes; without names, so that the table keeps a coding to a line
     Fixed(usize, Kind),
     // a length byte and that much text
     Text,

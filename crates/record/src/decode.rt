@@ -23,6 +23,7 @@ pub struct Decoded {
     pub next: usize,
 }
 
+// By two bits of the DIF. No `From<u8>`, since a byte is a DIF only here.
 fn function_of(dif: u8) -> Function
     ensures { result ≡ function_of dif }
 {
