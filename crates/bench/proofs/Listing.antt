@@ -1,28 +1,12 @@
 -- Tests of the elements of a list, one after another.
-use Rattle.std.proofs.Common.{◌≡◌, ℕ, ◌+◌, ◌<◌, ◌≤◌, Bool, true, false, cond, not, ◌&&◌, List, [], ◌∷◌, length, get_or, drop, Some, None, Option, MatchOption, sym, refl, ap, ◌∙◌}
+use Rattle.std.proofs.Common.{◌≡◌, ℕ, ◌+◌, Bool, true, false, cond, not, List, [], ◌∷◌, Some, None, Option, MatchOption, sym, refl, ap, ◌∙◌}
 use Rattle.std.specs.List.{position, position_from}
 use Rattle.std.specs.Option.{option_map}
 use Rattle.std.proofs.lemmas.Iterator.Adapters.{position_from-zero}
-use Rattle.std.proofs.lemmas.List.{drop_more, drop_all}
 use Rattle.link.specs.declared.fault.Report.{Report}
 use Rattle.link.specs.Checks.{first_fault}
 use Rattle.bench.specs.Checks.{numbered}
 use Rattle.bench.specs.Faults.{bad}
-use Rattle.bench.specs.Rows.{each}
-
-module _ {X : Type 0} (p : X → Bool) (xs : List X) (i : ℕ) where
-  module _ (d : X) (h : i < length xs) where
-    each_more : each p (drop i xs) ≡ (p (get_or xs i d) && each p (drop (i + 1) xs))
-    each_more = ap (each p) (drop_more xs i d h)
-
-    pub each_yes : p (get_or xs i d) ≡ true → each p (drop (i + 1) xs) ≡ each p (drop i xs)
-    each_yes e = sym (each_more ∙ ap (λ b. b && each p (drop (i + 1) xs)) e)
-
-    pub each_no : p (get_or xs i d) ≡ false → each p (drop i xs) ≡ false
-    each_no e = each_more ∙ ap (λ b. b && each p (drop (i + 1) xs)) e
-
-  pub each_end : length xs ≤ i → each p (drop i xs) ≡ true
-  each_end h = ap (each p) (drop_all i xs h)
 
 one_more : (b : Bool) (n : ℕ) (o : Option Report) (q : Option ℕ) → o ≡ option_map bad q → cond b o (Some (bad n)) ≡ option_map bad (cond (not b) (Some n) q)
 one_more true n o q e = e

@@ -33,6 +33,7 @@ pub(crate) fn read_all(store: Store, bytes: &[u8]) -> Result<Rows, CaptureFault>
 {
     let Store { mut rows } = store;
     let mut reader = Reader::new(bytes);
+    // no iterator: what reads a telegram narrows the reader and may refuse, and the refusal needs the rows
     while reader.at < reader.end {
         read_telegram(&mut reader, &mut rows)?;
     }

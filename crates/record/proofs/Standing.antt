@@ -1,6 +1,6 @@
 -- Where the parts of a record stand that nothing refuses.
 use Rattle.std.proofs.Common.{◌≡◌, ℕ, ◌+◌, ◌-◌, ◌≤◌, Bool, true, false, cond, ltb, leb, List, length, get_or, is_some, Some, None, Option, sym, refl, ap, ◌∙◌, subst, ap₂, arith}
-use Rattle.std.proofs.lemmas.Bool.{leb-true, ltb-true}
+use Rattle.std.proofs.lemmas.Bool.{leb-true}
 use Rattle.link.specs.declared.fault.Report.{Report}
 use Rattle.link.specs.Checks.{first_fault}
 use Rattle.quantity.specs.declared.meaning.Meaning.{Meaning}
@@ -8,7 +8,6 @@ use Rattle.record.specs.declared.coding.Coding.{Coding}
 use Rattle.record.specs.declared.coding.Coding.TheVariants.{Fixed, Text}
 use Rattle.record.specs.declared.coding.Kind.TheVariants as kind
 use Rattle.record.specs.declared.decode.Decoded.{Decoded}
-use Rattle.record.specs.Chains.{chain_checks, chain_end, extensions}
 use Rattle.record.specs.Records.{TextLast, Within, coding_at, data_checks, data_place, decoded, dib_checks, meaning_at, reading_of, record_of, record_refusal, vib_checks, vif_place}
 use Rattle.record.specs.Values.{value_checks, value_end, value_of}
 use Rattle.record.proofs.Refusals.{passed_parts}
@@ -17,16 +16,6 @@ use Rattle.record.proofs.Refusals.{passed_parts}
 held : (c : Bool) (f : Option Report) (r : Report) → None ≡ cond c f (Some r) → (c ≡ true) × (None ≡ f)
 held true f r h = (refl, h)
 held false f r h = let z : ◌≡◌ {A = ℕ} 0 1 = cc in absurd (omega arith)
-
-chain_within : (bs : List ℕ) (p : ℕ) → None ≡ first_fault (chain_checks bs p) → chain_end bs p ≤ length bs
-chain_within bs p h = let t = ltb-true (p + extensions bs p) (length bs) (held (ltb (p + extensions bs p) (length bs)) _ _ h).0 in omega arith
-
-dib_within : (bs : List ℕ) (p : ℕ) → None ≡ first_fault (dib_checks bs p) → chain_end bs p ≤ length bs
-dib_within bs p h =
-    chain_within bs p (held (is_some (coding_at bs p)) _ _ (held (ltb p (length bs)) _ _ h).1).1
-
-vib_within : (bs : List ℕ) (v : ℕ) → None ≡ first_fault (vib_checks bs v) → chain_end bs v ≤ length bs
-vib_within bs v h = chain_within bs v (held _ _ _ (held (ltb v (length bs)) _ _ h).1).1
 
 -- the data end in the body, a text at their end
 value_within : (bs : List ℕ) (d : ℕ) (c : Coding) → None ≡ first_fault (value_checks bs d c) → (d ≤ value_end bs d c) × (value_end bs d c ≤ length bs) × TextLast d (value_end bs d c) (value_of bs d c)

@@ -1,12 +1,12 @@
 // The numbers among the data, lowest byte first.
 ghost use Rattle.std.specs.Prelude.{◌≡◌, ◌+◌, ◌*◌, ◌^◌, ◌<◌, ◌≤◌, length, IfOk, MatchOption, slice_index};
 ghost use Rattle.link.specs.Checks.{first_fault};
-ghost use Rattle.telegram.specs.Digits.{decimal as both_decimal};
 ghost use Rattle.record.specs.Faults.{record_fault};
 ghost use Rattle.record.specs.Numbers.{unsigned_of, integer_of, magnitude, first_bad, decimal_of, digit_checks, digits_value};
 
 use crate::fault::RecordFault;
 use crate::positional::positional;
+use telegram::digits::is_decimal;
 
 pub(crate) fn unsigned(bytes: &[u8]) -> u64
     requires { length bytes.now ≤ 8 }
@@ -40,13 +40,6 @@ fn digits_at(bytes: &[u8], i: usize) -> u8
     } else {
         b
     }
-}
-
-// Both digits of a byte are at most 9.
-fn is_decimal(byte: u8) -> bool
-    ensures { result ≡ both_decimal byte }
-{
-    (byte % 16 <= 9) & (byte / 16 <= 9)
 }
 
 // The first byte with a digit above 9 that is no sign.

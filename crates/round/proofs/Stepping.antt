@@ -28,7 +28,7 @@ use Rattle.round.specs.declared.call.Outcome.TheVariants as outcome
 use Rattle.round.specs.declared.call.Telegram.{Telegram}
 use Rattle.round.specs.declared.any_master.Master.{Master}
 use Rattle.round.specs.declared.any_master.Master.TheVariants as master
-use Rattle.round.specs.Modes.{House, Mode, SameHouse, house_of, line_of}
+use Rattle.round.specs.Modes.{House, Mode, house_of, line_of}
 use Rattle.round.specs.Promise.{Goes}
 use Rattle.round.specs.Steps.{HoldsTelegram, Lists, Step}
 
@@ -185,9 +185,3 @@ module _ {L : Type 0} (means : L → State) (before known : Master L) (is : befo
   goes_as room c c₁ o es es' e h =
       let P : Master L → Call → Type 0 = λ x y. Goes means room x y o after es es' in
       subst (λ x. P x c) (sym is) (subst (P known) (sym e) h)
-
-  pub house_as : SameHouse means known after → SameHouse means before after
-  house_as h = subst (λ x. SameHouse means x after) (sym is) h
-
-  pub layers_as : (tries : L → ℕ) → tries (line_of after) ≡ tries (line_of known) → tries (line_of after) ≡ tries (line_of before)
-  layers_as tries h = h ∙ ap (λ x. tries (line_of x)) (sym is)

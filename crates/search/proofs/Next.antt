@@ -9,7 +9,7 @@ use Rattle.search.specs.Verdicts.{Verdict, nobody, one, several, Entry, follower
 use Rattle.search.specs.Searches.{Reached, probe}
 use Rattle.search.specs.Next.{raised, raisedUnder, upnext, todo, todo?, left, size}
 use Rattle.search.specs.Laws.{NextLeads, ToldIsFaulty}
-use Rattle.search.proofs.Steps.{InTree, in_tree, left_falls, left_bound, reached_weaker}
+use Rattle.search.proofs.Steps.{left_falls, left_bound, reached_weaker}
 
 -- d's later siblings
 abbrev later : ℕ → List (List ℕ)
@@ -60,11 +60,6 @@ raised_digit [] c h = cond-true (ltb c 9) (some ((c + 1) ∷ [])) none (lt-ltb c
 raised_digit (d ∷ p) c h = ap (raisedUnder d) (raised_digit p c h)
 
 module _ {M : Type 0} (May : List ℕ → Verdict M → Type 0) (D : ℕ) where
-  pub next_in_tree : (p : List ℕ) (es : List (Entry M)) (n : ℕ) → Reached May D (todo p) es n → InTree D p
-  next_in_tree p es n r =
-      let s : Reached May D (p ∷ todo? (raised p)) es n = subst (λ ps. Reached May D ps es n) (todo_is p) r in
-      (in_tree D s).0
-
   pub next_leads_at : (p : List ℕ) (es : List (Entry M)) (n : ℕ) → Reached May D (todo p) es n → (v : Verdict M) → May p v → Reached May D (todo? (upnext D p v)) (es ++ found D p v) (suc n) × (left D (todo? (upnext D p v)) < left D (todo p)) × (suc n ≤ size D)
   next_leads_at p es n r v h =
       let s : Reached May D (p ∷ todo? (raised p)) es n = subst (λ ps. Reached May D ps es n) (todo_is p) r in

@@ -1,10 +1,8 @@
 -- The next beginning, told from the last digit.
-use Rattle.std.proofs.Common.{◌≡◌, ℕ, ◌+◌, ◌<◌, ◌≤◌, cond, ltb, List, [], ◌∷◌, ◌++◌, length, take, set, sym, refl, ap, ◌∙◌, arith, take_all}
+use Rattle.std.proofs.Common.{◌≡◌, ℕ, ◌+◌, ◌<◌, ◌≤◌, List, [], ◌∷◌, ◌++◌, length, take, set, sym, refl, ap, ◌∙◌, arith}
 use Rattle.std.proofs.lemmas.List.{length-append, take-take, take_at, take_more_set}
 use mathlib.Core.Option.{some}
-use Rattle.std.proofs.lemmas.Bool.{cond-false, le-ltb}
 use Rattle.search.specs.Next.{raised}
-use Rattle.search.specs.Verdicts.{Entry, shared}
 use Rattle.search.proofs.Next.{raised_nine, raised_digit}
 
 -- a 9 at the end is dropped
@@ -24,10 +22,3 @@ last_raised ds kept front d h k room low =
     ap (λ m. some (take m (set ds (length front) (d + 1)))) n
     ∙ ap some (take_more_set ds (length front) (d + 1) (omega arith) ∙ ap (λ p. p ++ (d + 1) ∷ []) (sym (front_of ds kept front d h k)))
     ∙ sym (ap raised h ∙ raised_digit front d low)
-
--- all digits are a whole number, which several meters share
-pub whole_shared : (ds : List ℕ) (n : ℕ) → length ds ≡ 8 → 8 ≤ n → ◌≡◌ {A = List (Entry (List ℕ))} (shared ds ∷ []) (cond (ltb (length (take n ds)) 8) [] (shared (take n ds) ∷ []))
-whole_shared ds n l h =
-    let all = take_all n ds (omega arith) in
-    let long : length (take n ds) ≡ 8 = ap length all ∙ l in
-    ap (λ x. shared x ∷ []) (sym all) ∙ sym (cond-false (ltb (length (take n ds)) 8) [] (shared (take n ds) ∷ []) (le-ltb (length (take n ds)) 8 (omega arith)))

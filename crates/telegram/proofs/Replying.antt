@@ -1,8 +1,8 @@
 -- From a frame's parts to what its bytes are as a reply telegram.
-use Rattle.std.proofs.Common.{◌≡◌, ℕ, ◌+◌, ◌-◌, ◌≤◌, Bool, true, false, cond, not, ◌&&◌, leb, List, [], ◌∷◌, ◌++◌, length, get_or, take, drop, is_some, is_ok, IfOk, Some, None, Ok, Err, Decides, Option, Result, sym, refl, ap, ◌∙◌, subst, ⊎_elim, arith}
+use Rattle.std.proofs.Common.{◌≡◌, ℕ, ◌+◌, ◌-◌, ◌≤◌, true, cond, not, ◌&&◌, leb, List, [], ◌∷◌, ◌++◌, length, get_or, take, drop, is_some, is_ok, IfOk, Some, None, Ok, Err, Option, Result, sym, refl, ap, ◌∙◌, subst, ⊎_elim, arith}
 use Rattle.std.specs.List.{between}
 use Rattle.std.proofs.lemmas.List.{append_assoc, get_or_append_left, length-append, length-take-le, take-append-drop}
-use Rattle.std.proofs.lemmas.Bool.{and_parts, cases_lt, le-leb, lt-leb, not-true, not_from_false}
+use Rattle.std.proofs.lemmas.Bool.{and_parts, cases_lt, le-leb, lt-leb}
 use Rattle.std.proofs.lemmas.Bool.Decides.{nat_tests}
 use Rattle.link.specs.declared.frame.LongFrame.{LongFrame}
 use Rattle.link.specs.declared.frame.Frame.{Frame}
@@ -20,7 +20,7 @@ use Rattle.telegram.specs.declared.fault.ReplyFault.TheVariants as fault
 use Rattle.telegram.specs.declared.reply.Reply.{Reply}
 use Rattle.telegram.specs.Faults.{Rises, reply_fault, reply_report}
 use Rattle.telegram.specs.Digits.{decimal, decimal_number, digit_checks}
-use Rattle.telegram.specs.Replies.{Garbled, ReadsReply, answers, body_of, is_reply, telegram_checks, long_reply_checks, not_reply, reply_checks, reply_parts, reply_refusal}
+use Rattle.telegram.specs.Replies.{ReadsReply, body_of, is_reply, telegram_checks, long_reply_checks, not_reply, reply_checks, reply_parts, reply_refusal}
 
 -- a frame's fault comes first
 refusals : (bs : List ℕ) → reply_refusal bs ≡ or_else (frame_refusal bs) (first_fault (telegram_checks bs))
@@ -157,11 +157,3 @@ pub accepted : (bs : List ℕ) (r : Result Reply ReplyFault) → reply_fault r �
 unfolding is_reply
 accepted bs (Ok t) h = ap (λ o. not (is_some o)) h
 accepted bs (Err e) h = ap (λ o. not (is_some o)) h
-
--- too few bytes or too many
-pub never_garbled : (bs : List ℕ) → (Garbled bs → ⊥) → Decides false (Garbled bs)
-never_garbled bs h = (λ e. let z : ◌≡◌ {A = ℕ} 0 1 = cc in absurd (omega arith), λ g. absurd (h g))
-
-pub garbled_by : (bs : List ℕ) (a : Bool) → 1 ≤ length bs → length bs ≤ 261 → a ≡ answers bs → Decides (not a) (Garbled bs)
-garbled_by bs a l m h =
-    (λ e. record { some_bytes = l; few_bytes = m; no_answer = sym h ∙ not-true a e }, λ g. not_from_false a (h ∙ g.no_answer))

@@ -6,5 +6,6 @@ ghost use Rattle.telegram.specs.Digits.{decimal};
 pub fn is_decimal(byte: u8) -> bool
     ensures { result ≡ decimal byte }
 {
-    byte % 16 <= 9 && byte / 16 <= 9
+    // without a jump, since decimals are read digit by digit
+    (byte % 16 <= 9) & (byte / 16 <= 9)
 }
