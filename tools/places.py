@@ -30,7 +30,7 @@ PATTERNS = [
     ('1', 'numbers for kinds', r'^.*(code > LAST_CODE|match code \{|number: u8,|match n \{|match dif / 16).*$'),
     ('3', 'an index or a count kept by hand', r'^ +while (?!let\b).*$|^ +for \w+ in \(?\(?\d.*$|^.*(\w+) = \1\.saturating_add\(1\);$|^ +(at|count|len|telegrams|lines) [+-]= 1;$|^ +loop \{$'),
     ('3', 'a loop that all, any, find or position is', r'^ +for .*\{\n +if .*\{\n +return .*$'),
-    ('4', 'equality, conversion, printing by hand', r'^impl PartialEq .*$|^ *(pub )?fn (\w+_name|number|from_bytes|from_frame|bytes|report|unit_of_time|function_of)\(.*$'),
+    ('4', 'equality, conversion, printing by hand', r'^impl PartialEq .*$|^ *(pub fn report|pub fn number|(pub )?fn (\w+_name|from_bytes|from_frame|unit_of_time|function_of)|pub fn bytes)\(.*$'),
     ('4', 'a value taken apart to be printed', r'^ +let \w+ = self(\.\w+)+;$|^.*let line = \w+(Line)?[ ({;].*$'),
     ('6', 'an array with a length beside it', r'^    (pub(\(crate\))? )?\w+: (\[\w+; \w+\]|&\'a mut \[T\]|&\'a \[u8\]|Buffer|Vec<u8>),\n(    //.*\n)*    (pub(\(crate\))? )?(used|count|len|at|position): usize,$'),
     ('6', 'a table searched or indexed by hand', r'^static \w+: \[.*$'),

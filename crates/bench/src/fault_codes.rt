@@ -35,6 +35,7 @@ impl TryFrom<u8> for Code {
     }
 }
 
+// The codes and the place among them: an iterator would forget those that were used, and their count is told.
 #[derive(Drop)]
 pub(crate) struct FaultCodes {
     pub(crate) codes: Vec<u8>,

@@ -33,6 +33,7 @@ fn choose<T: Table>(table: &T, pattern: &Pattern) -> Matches<usize>
     ensures { Tells (T.meters table.now) (fitting (Some pattern.now) (T.meters table.now)) result }
 {
     let mut chosen = Matches::Nobody;
+    // by number: a table is asked for its rows one by one
     for row in 0..table.count() {
         if is_fit(table, pattern, row) {
             chosen = with_row(chosen, row);

@@ -11,6 +11,8 @@ use crate::table::Table;
 use link::buffer::{Buffer, fill};
 use telegram::request::Request;
 
+// A request and the buffer for its reply come apart, as they come to `Line::exchange`; what is heard relates the meters
+// before and after, so it stands at each call and in no type.
 #[derive(Drop)]
 pub struct MeterBus<T> {
     table: T,

@@ -7,7 +7,8 @@ use telegram::address::Address;
 use telegram::fault::ReplyFault;
 use telegram::reply::Reply;
 
-// The bytes from `at` to `end` are to be read. Between two telegrams the end is that of all bytes.
+// The bytes from `at` to `end` are to be read, by place, since the guard below narrows the end and puts it back.
+// Between two telegrams the end is that of all bytes.
 #[derive(Drop)]
 pub(crate) struct Reader<'a> {
     pub(crate) bytes: &'a [u8],

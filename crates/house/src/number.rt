@@ -40,6 +40,7 @@ pub(crate) fn decimal(word: &[u8], most: u16) -> Option<u16>
         return None;
     }
     let mut value: u16 = 0;
+    // a loop, since a `try_fold` with both refusals inside is no plainer
     for c in word {
         if !Digit::Decimal.admits(*c) {
             return None;

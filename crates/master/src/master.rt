@@ -38,7 +38,7 @@ pub struct Picked<L> {
     bit: bool,
 }
 
-// That a call keeps the layers relates the line before and after, so it stands at each call and in no type.
+// That a call keeps the layers, and a list its lender, relates before and after, so it stands at each call and in no type.
 
 // Sends the release.
 fn send_release<L: Line>(line: &mut L)

@@ -20,6 +20,7 @@ pub struct Meaning {
     pub power: i8,
 }
 
+// By the two low bits of a code, which are a number nowhere else.
 fn unit_of_time(n: u8) -> Unit
     ensures { result ≡ time_unit n }
 {

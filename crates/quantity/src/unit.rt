@@ -3,6 +3,7 @@ use std::fmt;
 
 #[derive(Clone, Copy)]
 pub enum Unit {
+    // a unit among others, and no `None`: table, text and digest tell it as they tell the rest
     Unitless,
     WattHour,
     Joule,

@@ -13,6 +13,8 @@ use line::line::Line;
 use master::master::Idle;
 use search::entry::Entry;
 
+// The calls and the places for what they give are the caller's, each a slice of its own. What a call keeps relates the
+// master before and after, so it stands at each and in no type.
 impl<L: Line> Master<L> {
     // An unused master.
     fn new(line: L) -> Master<L>
