@@ -12,6 +12,7 @@ use telegram::matches::Matches;
 
 #[derive(Clone, Copy)]
 pub(crate) enum DueReply {
+    // what a bus does too, and no `None`
     Silence,
     Acknowledgement,
     // a telegram of the meter in a row, by its place among that meter's telegrams
@@ -22,20 +23,20 @@ pub(crate) enum DueReply {
 
 impl DueReply {
     // All meters chosen acknowledge a selection.
-    pub(crate) fn to_selection(choice: Matches<usize>) -> DueReply
-        ensures { (ms chosen : List Meter) → Tells ms chosen choice → due_from ms result ≡ due_selects chosen }
+    pub(crate) fn to_selection(answering: Matches<usize>) -> DueReply
+        ensures { (ms chosen : List Meter) → Tells ms chosen answering → due_from ms result ≡ due_selects chosen }
     {
-        match choice {
+        match answering {
             Matches::Nobody => DueReply::Silence,
             Matches::One(_) | Matches::Several => DueReply::Acknowledgement,
         }
     }
 
     // All meters chosen answer a fetch, an only one with the telegram whose turn it is.
-    pub(crate) fn to_fetch(choice: Matches<usize>, turn: usize) -> DueReply
-        ensures { (ms chosen : List Meter) → Tells ms chosen choice → due_from ms result ≡ due_fetches chosen turn }
+    pub(crate) fn to_fetch(answering: Matches<usize>, turn: usize) -> DueReply
+        ensures { (ms chosen : List Meter) → Tells ms chosen answering → due_from ms result ≡ due_fetches chosen turn }
     {
-        match choice {
+        match answering {
             Matches::Nobody => DueReply::Silence,
             Matches::One(row) => DueReply::Telegram {
                 row,

@@ -19,7 +19,7 @@ use round::call::Call;
 // What a line says.
 #[derive(Drop)]
 pub(crate) enum HouseLine {
-    // nothing, or a comment
+    // nothing, or a comment: a kind of line and no `None`
     Skipped,
     // bytes of the area
     Area(Vec<u8>),
@@ -118,6 +118,7 @@ fn read_values(keyword: Keyword, source: Source) -> Option<HouseLine>
     ensures { option_map said result ≡ by_keyword (Some keyword) source.entry.text.now }
 {
     let text = source.text;
+    // what follows a keyword differs in more than a constant, so that closures in a table would be no plainer
     match keyword {
         Keyword::Area => read_area(source),
         Keyword::Meter => read_meter(source),

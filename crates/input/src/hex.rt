@@ -44,6 +44,7 @@ pub(crate) fn is_hexadecimal(text: &[u8]) -> bool
     ensures { result ≡ is_hex text.now }
 {
     let mut high = None;
+    // a loop, since a `try_fold` over two kinds of step is no plainer
     for c in text {
         let Some(step) = read_character(high, *c) else {
             return false;

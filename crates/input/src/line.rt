@@ -5,16 +5,16 @@ ghost use Rattle.input.specs.Lines.{ReadAs, blank, content_size, dash, skips};
 use crate::hex::{convert, is_hexadecimal};
 
 // What a line holds.
-#[derive(Clone, Copy, Debug, PartialEq, Eq)]
+#[derive(Clone, Copy)]
 pub enum Line {
-    // nothing, or a comment
+    // nothing, or a comment: a kind of line and no `None`
     Skipped,
     // a telegram of so many bytes, which stand at the front of the line now
     Telegram { size: usize },
 }
 
 // A line that holds anything else.
-#[derive(Clone, Copy, Debug, PartialEq, Eq)]
+#[derive(Clone, Copy)]
 pub struct Unreadable;
 
 // The line's length without a carriage return at its end.

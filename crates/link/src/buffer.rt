@@ -2,6 +2,8 @@
 ghost use Rattle.std.specs.Prelude.{◌≡◌, ◌+◌, ◌-◌, [], ◌++◌, length, min, take, drop};
 ghost use Rattle.link.specs.Buffers.{filled};
 
+// What fills a buffer and how many bytes that is are told in two clauses, so that each can be cited alone.
+
 // As many bytes as the longest frame has.
 pub type Buffer = [u8; 261];
 

@@ -28,7 +28,7 @@ impl fmt::Display for Layer {
     }
 }
 
-// A fault as it is told. Its number is what the programs print: the kinds themselves are the enums of faults. The place is the offset of the offending byte in its telegram.
+// A fault as it is told. Its number is what the programs print; the kinds themselves are the enums of faults. The place is the offset of the offending byte in its telegram.
 #[derive(Clone, Copy)]
 pub struct Report {
     pub layer: Layer,
@@ -44,6 +44,15 @@ pub trait Fault {
     // The fault's layer, its place if it has one, and its number.
     fn report(&self) -> Report
         ensures { result ≡ reported self.now };
+}
+
+// What was told already is told as it is.
+impl Fault for Report {
+    ghost reported = { λ report. report };
+
+    fn report(&self) -> Report {
+        *self
+    }
 }
 
 // Why some bytes are no frame, or why a frame cannot be written.

@@ -30,7 +30,7 @@ pub struct Idle<L> {
     line: L,
 }
 
-// A master that has a meter picked: whether any reply came to the pick, and the bit of the next fetch.
+// A master that has a meter picked: whether any reply came to the pick, and the bit of the next fetch, which is kept either way.
 #[derive(Drop)]
 pub struct Picked<L> {
     line: L,

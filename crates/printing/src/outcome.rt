@@ -9,7 +9,7 @@ use std::io::Write;
 
 // Prints a line for each entry of a search, where an entry found no place that fault, and what the search reports.
 fn print_found<O: Write>(out: &mut O, found: &Found, entries: &[Entry]) -> io::Result<()> {
-    let summary = found.result.unwrap_or_else(|fault| fault.summary);
+    let summary = found.summary();
     for entry in entries.iter().skip(found.from).take(summary.entries) {
         writeln!(out, "{}", EntryLine(*entry))?;
     }

@@ -15,6 +15,7 @@ pub enum Coding {
 
 #[derive(Clone, Copy)]
 pub enum Kind {
+    // a kind of data, told and printed as the others
     NoData,
     Integer,
     Real,

@@ -19,6 +19,7 @@ pub struct Span {
 
 #[derive(Clone, Copy)]
 pub enum Value {
+    // a kind of value, told and printed as the others
     NoData,
     Integer(i64),
     // a real number of 32 bits, as its bit pattern

@@ -1,5 +1,5 @@
 -- From what each call of a master ensures to the step between its modes.
-use Rattle.std.proofs.Common.{◌≡◌, ℕ, suc, ◌-◌, ◌≤◌, Bool, true, not, List, [], ◌∷◌, ◌++◌, map, length, take, Some, Ok, Err, Result, sym, refl, ap, ◌∙◌, subst, ap₂, arith, replicate, length-append}
+use Rattle.std.proofs.Common.{◌≡◌, ℕ, suc, ◌-◌, Bool, true, not, List, [], ◌∷◌, ◌++◌, map, length, take, Some, Ok, Err, Result, sym, refl, ap, ◌∙◌, subst, ap₂}
 use Rattle.link.specs.Buffers.{filled}
 use Rattle.link.proofs.Filling.{take_filled}
 use Rattle.telegram.specs.declared.address.Address.{Address}
@@ -67,11 +67,6 @@ left_by (Fetches.accepted reply x good) = record { bits = refl; buffers = refl; 
 left_by (Fetches.silent is x) = record { bits = refl; buffers = refl; answers = tt }
 left_by (Fetches.garbled is reply x some bad) = record { bits = refl; buffers = refl; answers = tt }
 
--- what was fetched lies within the buffer
-pub fetched_within : {s : State} {answered bit : Bool} {buffer : List ℕ} {n : ℕ} {s' : State} {bit' : Bool} → Fetches s answered bit (Ok n) buffer s' bit' → n ≤ length buffer
-unfolding filled
-fetched_within (Fetches.accepted reply x good) = omega (arith, length-append reply (replicate (261 - length reply) 0))
-
 -- a buffer that is filled with a telegram
 carried : (t : Telegram) (bytes : List ℕ) → t.buffer ≡ filled bytes → t.count ≡ length bytes → HoldsTelegram t bytes
 carried t bytes a n =
@@ -135,15 +130,15 @@ module _ {L : Type 0} (means : L → State) (room : ℕ) where
           let x₂ = subst (λ v. Fetches s p.answered (flipped k) r buffer t v) c x₁ in
           subst (λ v. Fetches s v (flipped k) r buffer t bit') a x₂
 
-      pub accepted_goes : (n : ℕ) (w : n ≤ length buffer) → Fetched (Ok n) → Continued (Ok n) → Goes means room (master.Picked p) call.Fetch (outcome.Fetched (Ok (record { buffer = buffer; count = n; within = w }))) (master.Picked q) es es
-      accepted_goes n w x next Mode.idle h = absurd h
-      accepted_goes n w x next (Mode.picked a answered k) h =
+      pub accepted_goes : (n : ℕ) → Fetched (Ok n) → Continued (Ok n) → Goes means room (master.Picked p) call.Fetch (outcome.Fetched (Ok (record { buffer = buffer; count = n }))) (master.Picked q) es es
+      accepted_goes n x next Mode.idle h = absurd h
+      accepted_goes n x next (Mode.picked a answered k) h =
           let kept : Keeps (means p.line) (means q.line) = fetches_keep x in
           let left = left_by x in
           let bit : q.bit ≡ flipped (suc k) = left.bits ∙ ap not h.1 in
           let yes : p.answered ≡ true = left.answers in (
             Mode.picked a answered (suc k),
-            Step.fetched (told (Ok n) answered k (flipped (suc k)) h.0 h.1 bit x) (λ m one. let got = (next a m k ((h.2 m one).linked yes)).accepted n refl in carried (record { buffer = buffer; count = n; within = w }) (telegram m k) got.0 got.1),
+            Step.fetched (told (Ok n) answered k (flipped (suc k)) h.0 h.1 bit x) (λ m one. let got = (next a m k ((h.2 m one).linked yes)).accepted n refl in carried (record { buffer = buffer; count = n }) (telegram m k) got.0 got.1),
             (
               same ∙ h.0,
               bit,

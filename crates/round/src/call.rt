@@ -1,5 +1,6 @@
 // The calls on a master, and what each gives.
-ghost use Rattle.std.specs.Prelude.{◌≡◌, ◌≤◌, length, take};
+ghost use Rattle.std.specs.Prelude.{◌≡◌, take};
+ghost use Rattle.master.specs.Faults.{summary_of};
 
 use link::buffer::Buffer;
 use master::fault::{FetchFault, SearchFault, Summary};
@@ -17,16 +18,15 @@ pub enum Call {
 // memory of the longest one.
 #[derive(Clone, Copy)]
 pub struct Telegram {
-    pub(crate) buffer: Buffer,
-    pub(crate) count: usize,
-    ghost within: { count ≤ length buffer },
+    pub buffer: Buffer,
+    pub count: usize,
 }
 
 impl Telegram {
     pub fn bytes(&self) -> &[u8]
         ensures { result.now ≡ take self.now.count self.now.buffer }
     {
-        &self.buffer[..self.count]
+        &self.buffer[..self.count.min(self.buffer.len())]
     }
 }
 
@@ -35,6 +35,15 @@ impl Telegram {
 pub struct Found {
     pub from: usize,
     pub result: Result<Summary, SearchFault>,
+}
+
+impl Found {
+    // How many entries it listed and how many selections it sent, also where an entry found no place.
+    pub fn summary(&self) -> Summary
+        ensures { result ≡ summary_of self.now.result }
+    {
+        self.result.unwrap_or_else(|fault| fault.summary)
+    }
 }
 
 #[derive(Clone, Copy)]

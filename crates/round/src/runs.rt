@@ -41,6 +41,7 @@ impl<L: Line> Master<L> {
         ensures house { SameHouse L.means self result.0 }
         ensures layers { L.tries (line_of result.0) ≡ L.tries (line_of self) }
     {
+        // by the state and the call: each pair has its own types
         match (self, call) {
             (Master::Idle(idle), Call::Search) => search(idle, places),
             (Master::Idle(idle), Call::Pick(address)) => pick(idle, address),

@@ -77,13 +77,6 @@ fn search_into<L: Line>(idle: &mut Idle<L>, places: &mut [Entry]) -> Result<Summ
     idle.search(&mut list)
 }
 
-// What a search reports, a full list's too.
-fn reported(found: Result<Summary, SearchFault>) -> Summary
-    ensures { result ≡ summary_of found }
-{
-    found.unwrap_or_else(|fault| fault.summary)
-}
-
 // A search with the places after those used.
 pub(crate) fn search<L: Line>(mut idle: Idle<L>, places: &mut Places) -> (Master<L>, Outcome)
     ensures goes { Goes L.means (room places.old) (Master.Idle idle) Call.Search result.1 result.0 (listed places.old) (listed places.new) }
@@ -93,7 +86,7 @@ pub(crate) fn search<L: Line>(mut idle: Idle<L>, places: &mut Places) -> (Master
 {
     let from = places.used;
     let result = search_into(&mut idle, &mut places.all[from..]);
-    places.used = from + reported(result).entries;
     let found = Found { from, result };
+    places.used = from + found.summary().entries;
     (Master::Idle(idle), Outcome::Found(found))
 }

@@ -68,6 +68,7 @@ fn make_calls<L: Line + Drop, O: Write>(
     let (now, mut left) = calls.split_at(stretch(calls));
     let (mut master, progress) = Master::start(line, now, outcomes, entries);
     print_outcomes(out, 1, &outcomes[..progress.calls], entries)?;
+    // a loop, since each turn takes the master and gives it back
     while !left.is_empty() {
         let first = (calls.len() - left.len()) as u64;
         let (now, rest) = left.split_at(stretch(left));

@@ -7,7 +7,7 @@ pub struct Number {
     pub digits: [u8; 8],
 }
 
-// What a place for an entry holds before a meter is found.
+// What a place for an entry holds before a meter is found. No `Option`: places hold entries, and how many do is told.
 pub const NOTHING: Entry = Entry::Shared(Number { digits: [0; 8] });
 
 #[derive(Clone, Copy)]

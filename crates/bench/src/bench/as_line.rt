@@ -31,6 +31,7 @@ impl Line for Bench {
         ensures layers { single self.new ≡ single self.old }
         ensures befalls { Befalls self.old request.now result reply.new self.new }
     {
+        // four ways of one call each, by an enum that says which
         match self.faults.next() {
             Code::Clean => self.bus.answer(request, reply),
             Code::LostOut => self.bus.lose_request(reply),

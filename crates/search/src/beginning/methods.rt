@@ -94,6 +94,7 @@ impl Beginning {
     fn raised(&self) -> Option<Beginning>
         ensures { followed result ≡ raised (digits_of self.now) }
     {
+        // from the back, each turn over what stands before the last digit
         let mut kept = &self.digits[..self.len];
         loop {
             let (last, front) = kept.split_last()?;

@@ -1,14 +1,11 @@
-use Rattle.round.proofs.Stepping.{accepted_goes, fetched_within, fetches_keep, refused_goes, same_house}
+use Rattle.round.proofs.Stepping.{accepted_goes, fetches_keep, refused_goes, same_house}
 use Rattle.round.proofs.steps.fetch.Goals as goal
-
-pub invariant_of-result : goal.invariant_of-result
-invariant_of-result g c = record { within = fetched_within c.in-Ok.ensures.fetched }
 
 pub returns-in-Ok : goal.returns-in-Ok
 returns-in-Ok g c =
     let f = c.in-Ok.ensures in
     record {
-      goes = λ room es. accepted_goes g.L.Line.means room es c.args.picked c.fetch.new.self c.fetch.new.buffer f.answered c.in-Ok.count _ f.fetched f.continues;
+      goes = λ room es. accepted_goes g.L.Line.means room es c.args.picked c.fetch.new.self c.fetch.new.buffer f.answered c.in-Ok.count f.fetched f.continues;
       house = same_house _ _ (fetches_keep f.fetched);
       layers = f.layers;
     }

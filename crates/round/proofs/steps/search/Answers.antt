@@ -14,7 +14,7 @@ returns g c =
     let used = c.args.places.now.used in
     let low : used ≤ length xs = c.args.places.now.within in
     let n = (summary_of c.search_into-result.result).entries in
-    let n_is : c.reported.result.entries ≡ n = ap (λ s. s.entries) c.reported.ensures in
+    let n_is : c.summary.result.entries ≡ n = ap (λ s. s.entries) c.summary.ensures in
     let few : n ≤ length ys = omega (arith, f.within, c.search_into-result.auto.places) in
     let all = put_mid used (length xs - used) xs ys in
     record {
