@@ -17,6 +17,7 @@ pub(crate) struct RowTable {
     ghost fitting: { each (row_fits (length area.items)) rows.items ≡ true },
 }
 
+// Not shared with a capture's table: short methods over rows of another kind.
 impl Table for RowTable {
     ghost meters = { λ t. meters_of t.rows.items t.area.items };
 

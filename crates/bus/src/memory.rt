@@ -85,7 +85,7 @@ impl Memory {
         self.kept.is_some_and(|kept| kept.bit == bit)
     }
 
-    // The number of the telegram that is sent, 0 if no bit is kept.
+    // The number of the telegram that is sent, 0 if no bit is kept, as a line's meaning has it.
     fn turn(&self) -> usize
         ensures { result ≡ turn_kept self.now.kept }
     {

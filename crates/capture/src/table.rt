@@ -8,6 +8,7 @@ use bus::table::Table;
 use link::buffer::{Buffer, fill};
 use telegram::address::Address;
 
+// Not shared with a bench's table: short methods over rows of another kind.
 impl Table for Recording {
     ghost meters = { λ t. meters_of t.bytes.items t.rows.items };
 

@@ -28,7 +28,8 @@ impl fmt::Display for Layer {
     }
 }
 
-// A fault as it is told. Its number is what the programs print; the kinds themselves are the enums of faults. The place is the offset of the offending byte in its telegram.
+// A fault as it is told. Its number is what the programs print; the kinds themselves are the enums of faults. The place
+// is the offset of the offending byte in its telegram.
 #[derive(Clone, Copy)]
 pub struct Report {
     pub layer: Layer,

@@ -8,7 +8,7 @@ ghost use Rattle.link.specs.Laws.{Reads};
 use crate::fault::FrameFault;
 use crate::frame::{Frame, LongFrame};
 
-// The sum of the bytes modulo 256.
+// The sum of the bytes modulo 256. A loop that counts nothing; a fold is no plainer.
 pub(crate) fn checksum(bytes: &[u8]) -> u8
     ensures { result ≡ summed bytes.now }
 {

@@ -35,7 +35,8 @@ fn function_of(dif: u8) -> Function
     }
 }
 
-// The data information block at `at`, the DIF and its DIFEs: how the data are coded.
+// The data information block at `at`, the DIF and its DIFEs: how the data are coded. Not one function with the next, since
+// the two mean and refuse different things.
 fn data_block(bytes: &[u8], at: usize) -> Result<Parsed<Coding>, RecordFault>
     ensures fault { record_fault result ≡ first_fault (dib_checks bytes.now at) }
     ensures coding { IfOk result (λ b. dif_coding (slice_index bytes.now at) ≡ Some b.value) }

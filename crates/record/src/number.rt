@@ -42,7 +42,7 @@ fn digits_at(bytes: &[u8], i: usize) -> u8
     }
 }
 
-// The first byte with a digit above 9 that is no sign.
+// The first byte with a digit above 9 that is no sign. By place, since only the topmost byte has a sign.
 fn first_bad_digit(bytes: &[u8]) -> Option<usize>
     ensures { MatchOption result (length bytes.now ≤ first_bad bytes.now) (λ bad. (bad < length bytes.now) × (bad ≡ first_bad bytes.now)) }
 {

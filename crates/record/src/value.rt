@@ -13,6 +13,8 @@ use crate::reading::{Span, Value};
 
 const LONGEST_TEXT: usize = 0xbf;
 
+// That a value and its end are those of the coding relates a result to arguments, so it stands in each and in no type.
+
 // The value of the bytes at `place`.
 fn number(bytes: &[u8], kind: Kind, place: usize) -> Result<Value, RecordFault>
     requires { (SizedKind (length bytes.now) kind) × (place + length bytes.now < 2 ^ 64) }

@@ -40,7 +40,7 @@ impl Reply {
         Reply::try_from(frame)
     }
 
-    // The reply telegram that a long frame is, or the first fault in it.
+    // The reply telegram that a long frame is, or the first fault in it. By index, since the length is tested in its turn.
     fn from_long(frame: LongFrame) -> Result<Reply, ReplyFault>
         ensures fault { reply_fault result ≡ first_fault (long_reply_checks frame.entry.control frame.entry.information frame.entry.«data».now) }
         ensures parts { IfOk result (λ t. reply_parts t (drop 12 frame.entry.«data».now) ≡ long_parts frame.entry) }

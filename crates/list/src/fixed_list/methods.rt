@@ -31,7 +31,7 @@ impl<'a, T: Copy> FixedList<'a, T> {
         self.used = 0;
     }
 
-    // Adds an entry at the end; where no place is left, the refusal changes nothing.
+    // Adds an entry at the end; where no place is left, the refusal changes nothing. By index, which is the count.
     pub fn push(&mut self, entry: T) -> Result<(), Full>
         ensures result { result ≡ put_result (all_places self.old) (used_of self.old) }
         ensures places { all_places self.new ≡ put_places (all_places self.old) (used_of self.old) entry }

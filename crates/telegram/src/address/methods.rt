@@ -32,7 +32,8 @@ fn check_digits(number: [u8; 4], start: usize) -> Result<(), ReplyFault>
 }
 
 impl Address {
-    // The address in the first eight bytes, of which the first stands at `start`.
+    // The address in the first eight bytes, of which the first stands at `start`. By index: a pattern would have a
+    // branch for too few bytes, which never come.
     pub(crate) fn at(bytes: &[u8], start: usize) -> Result<Address, ReplyFault>
         requires in_bounds { 8 ≤ length bytes.now }
         requires start_bound { start ≤ 7 }
