@@ -88,7 +88,9 @@ pub(crate) fn mix_item(digest: u64, item: &Item) -> u64
     ensures { result ≡ mixed_all digest (item_fields (view item.now)) }
 {
     match item {
-        Item::Record { reading, vifes, .. } => mix_reading(digest, reading, vifes.len()),
+        Item::Record { reading, vifes } | Item::Text { reading, vifes, .. } => {
+            mix_reading(digest, reading, vifes.len())
+        }
         Item::Manufacturer { place, bytes, more } => mix_all(
             digest,
             &[2, *place as u64, bytes.len() as u64, u64::from(*more)],
