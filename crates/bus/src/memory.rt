@@ -1,8 +1,7 @@
 // What meters remember from one request to the next.
-ghost use Rattle.std.specs.Prelude.{◌≡◌, ◌<◌, List, [], ◌∷◌, length, None, Some};
-ghost use Rattle.std.specs.Option.{option_map};
+ghost use Rattle.std.specs.Prelude.{◌≡◌, List, None, Some};
 ghost use Rattle.line.specs.Meters.{Meter};
-ghost use Rattle.line.specs.Buses.{due as due_after, fetched, fitting, hear as hearing, holds as holding, selected};
+ghost use Rattle.line.specs.Buses.{due as due_after, fitting, hear as hearing, selected};
 ghost use Rattle.bus.specs.Memories.{OnlyHas, Positive, remembering, turn_kept};
 ghost use Rattle.bus.specs.Replies.{due_from};
 
@@ -38,30 +37,32 @@ impl Memory {
         }
     }
 
-    // A fetch of the only selected meter, which has `count` telegrams: a new bit is kept, and the next telegram's turn comes.
-    fn fetch(&mut self, bit: bool, count: usize)
-        requires { 0 < count }
-        ensures { (ms : List Meter) (m : Meter) → count ≡ length m.telegrams → remembering ms self.new ≡ fetched (m ∷ []) bit (remembering ms self.old) }
-    {
-        if !self.holds(bit) {
-            let turn = self.turn() % count + 1;
-            self.kept = Some(Kept { bit, turn });
-        }
-    }
-
-    // Changes what is kept by that and the request together. `only` is the number of telegrams of the only
+    // Changes what is kept by that and the request together, in place. `only` is the number of telegrams of the only
     // selected meter, where there is exactly one.
-    #[tactic(auto, using(crate::proofs::Keeping::fetched_none, crate::proofs::Keeping::fetched_one), unfolding(line::specs::Buses::hear, line::specs::Buses::selected))]
     fn keep(&mut self, request: &Request, only: Option<usize>)
         requires { Positive only }
         ensures { (ms : List Meter) → OnlyHas (selected (remembering ms self.old)) only → remembering ms self.new ≡ hearing (Some request.now) (remembering ms self.old) }
     {
-        match request {
-            Request::Selection(pattern) => *self = Memory::new(Some(*pattern)),
-            Request::Release => *self = Memory::new(None),
-            Request::Fetch { bit } => {
+        match (&mut self.kept, request) {
+            (kept, Request::Selection(pattern)) => {
+                *kept = None;
+                self.selection = Some(*pattern);
+            }
+            (kept, Request::Release) => {
+                *kept = None;
+                self.selection = None;
+            }
+            (Some(Kept { bit, turn }), Request::Fetch { bit: next }) => {
                 if let Some(count) = only {
-                    self.fetch(*bit, count);
+                    if *bit != *next {
+                        *bit = *next;
+                        *turn = *turn % count + 1;
+                    }
+                }
+            }
+            (None, Request::Fetch { bit }) => {
+                if let Some(_) = only {
+                    self.kept = Some(Kept { bit: *bit, turn: 1 });
                 }
             }
         }
@@ -76,13 +77,6 @@ impl Memory {
             let only = only_count(table, &self.selection);
             self.keep(request, only);
         }
-    }
-
-    // Whether the bit is the one that is kept.
-    fn holds(&self, bit: bool) -> bool
-        ensures { result ≡ holding (option_map (λ k. k.bit) self.now.kept) bit }
-    {
-        self.kept.is_some_and(|kept| kept.bit == bit)
     }
 
     // The number of the telegram that is sent, 0 if no bit is kept, as a line's meaning has it.

@@ -57,10 +57,10 @@ pub(crate) fn walk<L: Line>(
         selections += 1;
         let Ok(()) = add(list, at.entry(verdict)) else {
             let summary = summary(list, selections);
-            return Err(SearchFault { summary });
+            break Err(SearchFault { summary });
         };
         let Some(next) = at.after(verdict) else {
-            return Ok(summary(list, selections));
+            break Ok(summary(list, selections));
         };
         at = next;
     }
