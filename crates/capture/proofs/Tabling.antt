@@ -18,7 +18,7 @@ Stands {X} xs i x = (i < length xs) × ((d : X) → x ≡ get_or xs i d)
 
 module _ (bytes : List ℕ) (rows : List Row) (i : ℕ) where
   module _ (r : Row) (h : Stands rows i r) where
-    meter_is : meter_at (meters_of bytes rows) i ≡ meter_of bytes r
+    pub meter_is : meter_at (meters_of bytes rows) i ≡ meter_of bytes r
     unfolding meters_of
     meter_is = get_or-map (meter_of bytes) rows i r _ h.0 ∙ ap (meter_of bytes) (sym (h.1 r))
 

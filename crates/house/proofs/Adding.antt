@@ -30,7 +30,7 @@ unsaid_line p text e None n = nothing_said p text e
 unsaid_line p text e (Some x) n = absurd (none-some x (sym n))
 
 module _ (p q : Parts) (text : List ℕ) (s : Statement) (e : Some s ≡ statement (content text)) where
-  line_taken : Accepts p s true q → TakesLine p text q
+  pub line_taken : Accepts p s true q → TakesLine p text q
   line_taken a =
       record {
         says = s;
@@ -40,7 +40,7 @@ module _ (p q : Parts) (text : List ℕ) (s : Statement) (e : Some s ≡ stateme
         parts = a.parts;
       }
 
-  line_refused : Accepts p s false q → RefusesLine p text q
+  pub line_refused : Accepts p s false q → RefusesLine p text q
   line_refused a =
       record {
         untaken = λ x sp. ap (takes p) (same s x (statement (content text)) (sym e) (complete sp)) ∙ sym a.answer;

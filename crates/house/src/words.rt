@@ -1,5 +1,5 @@
 // The words of a line.
-ghost use Rattle.std.specs.Prelude.{◌≡◌, ◌+◌, ◌≤◌, [], ◌∷◌, length, take, drop, MatchOption};
+ghost use Rattle.std.specs.Prelude.{◌≡◌, ◌+◌, ◌≤◌, [], ◌∷◌, length, take, drop, IfSome, MatchOption};
 ghost use Rattle.std.specs.Iterator.{YieldsFirstRef, item_count};
 ghost use Rattle.house.specs.Words.{after, before, words as words_of};
 
@@ -16,6 +16,7 @@ pub(crate) fn size_before(text: &[u8], end: u8) -> usize
 fn skip_spaces(text: &[u8]) -> &[u8]
     ensures same { words_of result.now ≡ words_of text.now }
     ensures word { before 0x20 result.now ≡ [] → result.now ≡ [] }
+    ensures within { length result.now ≤ length text.now }
 {
     let spaces = text.iter().position(|c| *c != b' ').unwrap_or(text.len());
     &text[spaces..]
@@ -23,7 +24,8 @@ fn skip_spaces(text: &[u8]) -> &[u8]
 
 // The first word of a text, and the text behind it.
 fn split_first_word(text: &[u8]) -> Option<(&[u8], &[u8])>
-    ensures { MatchOption result (words_of text.now ≡ []) (λ parts. words_of text.now ≡ parts.0.now ∷ words_of parts.1.now) }
+    ensures parts { MatchOption result (words_of text.now ≡ []) (λ parts. words_of text.now ≡ parts.0.now ∷ words_of parts.1.now) }
+    ensures shorter { IfSome result (λ parts. length parts.0.now + length parts.1.now ≤ length text.now) }
 {
     let text = skip_spaces(text);
     let (word, rest) = text.split_at(size_before(text, b' '));

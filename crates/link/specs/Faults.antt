@@ -1,10 +1,18 @@
 -- How each fault of a frame is told: its layer, its place if it has one, its number.
-use Rattle.std.specs.Prelude.{ℕ, Some, None, Ok, Err, Option, Result}
+use Rattle.std.specs.Prelude.{ℕ, List, Some, None, Ok, Err, codes, Option, Result}
 use Rattle.link.specs.declared.fault.Layer.{Layer}
 use Rattle.link.specs.declared.fault.Layer.TheVariants as layer
 use Rattle.link.specs.declared.fault.Report.{Report}
 use Rattle.link.specs.declared.fault.FrameFault.{FrameFault}
 use Rattle.link.specs.declared.fault.FrameFault.TheVariants.{Empty, Start, TooFew, Header, TooMany, Stop, Checksum, Oversize}
+
+-- how the programs print a layer
+abbrev pub layer_name : Layer → List ℕ
+layer_name layer.Frame = codes "frame"
+layer_name layer.Reply = codes "reply"
+layer_name layer.Record = codes "record"
+layer_name layer.Master = codes "master"
+layer_name layer.Making = codes "making"
 
 -- a fault with a place
 abbrev pub report_at : Layer → ℕ → ℕ → Report

@@ -1,7 +1,7 @@
 // Faults: what is refused is told by a layer, mostly a place, and a number.
-ghost use Rattle.std.specs.Prelude.{◌≡◌};
+ghost use Rattle.std.specs.Prelude.{◌≡◌, Some};
 ghost use Rattle.link.specs.declared.fault.Report.{Report as Reported};
-ghost use Rattle.link.specs.Faults.{frame_report};
+ghost use Rattle.link.specs.Faults.{frame_report, layer_name};
 
 use std::fmt;
 
@@ -17,6 +17,8 @@ pub enum Layer {
 
 // By the name that the programs print.
 impl fmt::Display for Layer {
+    ghost output = { λ layer. Some (layer_name layer) };
+
     fn fmt<W: fmt::Write>(&self, f: &mut fmt::Formatter<W>) -> fmt::Result {
         f.write_str(match self {
             Layer::Frame => "frame",

@@ -1,3 +1,4 @@
 pub mod Laws
 pub mod Quantities
 pub mod Table
+pub mod Units

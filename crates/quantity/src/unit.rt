@@ -1,4 +1,7 @@
 // The units of the quantities.
+ghost use Rattle.std.specs.Prelude.{Some};
+ghost use Rattle.quantity.specs.Units.{unit_name};
+
 use std::fmt;
 
 #[derive(Clone, Copy)]
@@ -25,6 +28,8 @@ pub enum Unit {
 }
 
 impl fmt::Display for Unit {
+    ghost output = { λ unit. Some (unit_name unit) };
+
     fn fmt<W: fmt::Write>(&self, f: &mut fmt::Formatter<W>) -> fmt::Result {
         f.write_str(match self {
             Unit::Unitless => "-",
